@@ -1,0 +1,5 @@
+-- The lemmas that the answers share.
+mod Places
+mod Reading
+mod Sets
+mod Written
