@@ -1,0 +1,8 @@
+-- The definitions that the contracts cite.
+pub mod Cutting
+pub mod Entries
+pub mod Faults
+pub mod Headers
+pub mod Keywords
+pub mod Numerals
+pub mod Tallies

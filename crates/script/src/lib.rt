@@ -1,0 +1,33 @@
+// The language of run scripts: lines, words, numbers, the header and the entries, and the closing record's parts.
+mod cursors;
+mod cutting;
+mod entries;
+mod faults;
+mod headers;
+mod hexes;
+mod keywords;
+mod numerals;
+mod tallies;
+
+pub use cursors::Lines;
+pub use cutting::next_line;
+pub use cutting::next_word;
+pub use entries::Entry;
+pub use entries::EntryDebug;
+pub use entries::read_entry;
+pub use faults::Expected;
+pub use faults::ExpectedDebug;
+pub use faults::Fault;
+pub use faults::FaultDebug;
+pub use faults::FaultDisplay;
+pub use headers::Header;
+pub use headers::HeaderDebug;
+pub use headers::ServiceKind;
+pub use headers::ServiceKindDebug;
+pub use headers::ServiceKindDisplay;
+pub use headers::read_header;
+pub use hexes::Hex;
+pub use hexes::HexDisplay;
+pub use numerals::read_number;
+pub use tallies::Tally;
+pub use tallies::TallyDebug;
