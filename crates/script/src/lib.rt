@@ -28,6 +28,7 @@ pub use headers::ServiceKindDisplay;
 pub use headers::read_header;
 pub use hexes::Hex;
 pub use hexes::HexDisplay;
+pub use hexes::read_hex;
 pub use numerals::read_number;
 pub use tallies::Tally;
 pub use tallies::TallyDebug;
