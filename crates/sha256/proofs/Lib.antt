@@ -1,0 +1,6 @@
+-- What several proofs share.
+mod Schedules
+mod Parsing
+mod Padding
+mod Streams
+mod Keys
