@@ -1,0 +1,6 @@
+-- The lemmas of the crate.
+mod Cuts
+mod Every
+mod SboxTable
+mod Steps
+mod Sums
