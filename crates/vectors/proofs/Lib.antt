@@ -1,0 +1,2 @@
+-- The published results, computed.
+pub mod Computed

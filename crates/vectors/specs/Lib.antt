@@ -1,0 +1,2 @@
+-- Published results, as statements about the definitions.
+pub mod Published
