@@ -1,4 +1,6 @@
 // AES-128 encryption (FIPS 197), and the tags of AES-CMAC (RFC 4493).
+#![tactic(auto)]
+
 mod blocks;
 mod bytes;
 mod chains;

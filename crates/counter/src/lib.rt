@@ -1,5 +1,7 @@
 // What a trusted counter means, for every crate that uses one: kinds of certificates, statements, checkers, counters and
 // seats.
+#![tactic(auto)]
+
 mod contract;
 mod kinds;
 mod seats;

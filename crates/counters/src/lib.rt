@@ -1,4 +1,6 @@
 // The two kinds of trusted counters, by HMAC-SHA-256 and by AES-CMAC: one body over any tag function.
+#![tactic(auto)]
+
 mod checkers;
 mod macs;
 mod tags;

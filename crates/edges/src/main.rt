@@ -1,4 +1,6 @@
 // Shows the edges of the rules by the calls themselves, one line for each.
+#![tactic(auto)]
+
 mod lines;
 mod proved;
 

@@ -1,4 +1,6 @@
 // Plays a run script, from the file that is named or from standard input, and prints what each of its lines did.
+#![tactic(auto)]
+
 mod inputs;
 mod plays;
 mod records;

@@ -1,4 +1,6 @@
 // The two registers: glyph widths and the release line.
+#![tactic(auto)]
+
 mod glyph_rows;
 mod glyphs;
 mod operations;

@@ -1,4 +1,6 @@
 // The language of run scripts: lines, words, numbers, the header and the entries, and the closing record's parts.
+#![tactic(auto)]
+
 mod cursors;
 mod cutting;
 mod entries;

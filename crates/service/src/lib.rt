@@ -1,4 +1,6 @@
 // What a register does with requests, and the sessions that stand over any register.
+#![tactic(auto)]
+
 mod contract;
 mod kept;
 mod replies;

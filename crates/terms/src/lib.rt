@@ -1,4 +1,6 @@
 // The words that every other crate shares: the group and its numbers, views and orders, requests and refusals.
+#![tactic(auto)]
+
 mod constants;
 mod pairs;
 mod refusals;

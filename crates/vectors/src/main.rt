@@ -1,4 +1,6 @@
 // Runs the tag functions on published inputs, as lines on standard input give them, and holds what they give to what was published.
+#![tactic(auto)]
+
 mod functions;
 mod lines;
 mod pieces;

@@ -1,4 +1,6 @@
 // Numbers, opaque bytes, counted lists and tables as RFC 4506 lays them out.
+#![tactic(auto)]
+
 mod reading;
 mod tables;
 mod writing;
