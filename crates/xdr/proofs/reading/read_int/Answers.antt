@@ -8,5 +8,5 @@ pub returns : goal.returns
 returns c =
     let bytes = c.args.bytes.now in
     let there = int_there bytes _ (search rules) (take_rest bytes 4) in
-    let number = c.from-be-bytes.ensures in
+    let number = c.from_be_bytes.ensures in
     record { value = cc; exact = ints_exact }

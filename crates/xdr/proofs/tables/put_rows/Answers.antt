@@ -11,8 +11,8 @@ use Rattle.xdr.proofs.tables.put_rows.Goals as goal
 pub loop-row-init : goal.loop-row-init
 loop-row-init g c = (omega arith, sym (pasted_none c.args.out.now c.args.at))
 
-pub put-row-end-requires : goal.put-row-end-requires
-put-row-end-requires g c =
+pub put_row-end-requires : goal.put_row-end-requires
+put_row-end-requires g c =
     let w = width_within g.T.Row.width c.loop-row.row-index (length c.args.rows.now) c.loop-row-test.true in
     omega (arith, c.requires, c.loop-row.auto.out)
 
@@ -32,9 +32,9 @@ loop-row-preserved g c =
     let read = c.row-item.is in
     let joins = flat_map_more layout [] (take i rows) row in
     let place = c.loop-row.invariant.0 in
-    let end = c.put-row-end.ensures.end in
-    let after : c.put-row-end.new.out ≡ pasted c.args.out.now c.args.at (flat_map layout (take i rows) ++ layout row) =
-    pasted_then c.args.out.now c.args.at (flat_map layout (take i rows)) (layout row) c.loop-row.invariant.1 c.put-row-end.ensures.after (omega arith) (omega (arith, c.requires)) in
+    let end = c.put_row-end.ensures.end in
+    let after : c.put_row-end.new.out ≡ pasted c.args.out.now c.args.at (flat_map layout (take i rows) ++ layout row) =
+    pasted_then c.args.out.now c.args.at (flat_map layout (take i rows)) (layout row) c.loop-row.invariant.1 c.put_row-end.ensures.after (omega arith) (omega (arith, c.requires)) in
     (omega arith, cc)
 
 pub returns : goal.returns

@@ -7,4 +7,4 @@ pub returns : goal.returns
 returns g c =
     let self = c.args.self.now in
     let all = length-written g.S.Service.written self.kept (g.S.Service.state self.below) self.full in
-    omega (arith, c.saturating-add.ensures, c.written-len.ensures)
+    omega (arith, c.saturating_add.ensures, c.written_len.ensures)
