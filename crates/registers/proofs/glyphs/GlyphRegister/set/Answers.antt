@@ -8,10 +8,10 @@ use Rattle.registers.proofs.glyphs.GlyphRegister.set.Goals as goal
 pub returns-then-not-put : goal.returns-then-not-put
 returns-then-not-put c =
     let rows = c.args.self.now.rows.items in
-    let small : c.args.value ≤ largest_measure = c.if-value-gt-LARGEST-MEASURE.false in
+    let small : c.args.value ≤ largest_measure = c.if-value-gt-LARGEST_MEASURE.false in
     let found = c.row.ensures in
     let fresh = c.new.ensures in
-    let chosen = c.unwrap-or.ensures in
+    let chosen = c.unwrap_or.ensures in
     let made = c.with-row.ensures in
     let named = set_glyph rows c.args.measure c.args.glyph c.args.value in
     let row : c.with-row.result ≡ with_measure c.args.measure c.args.value (row_or_new rows c.args.glyph) = cc in
