@@ -1,11 +1,11 @@
 -- The bytes of a statement: as they are written, and that no two statements share them.
-use Rattle.std.proofs.Common.{◌≡◌, ℕ, ◌+◌, ◌^◌, ◌<◌, List, [], ◌∷◌, ◌++◌, length, sym, ◌∙◌, append_assoc, arith}
+use Rattle.std.proofs.Common.{◌≡◌, ℕ, ◌+◌, List, [], ◌∷◌, ◌++◌, length, ◌∙◌, append_assoc, arith}
 use Rattle.std.proofs.lemmas.List.{append-nil, drop_all}
 use Rattle.std.specs.List.{flat_map}
 use Rattle.xdr.proofs.Numbers.{int_begins, hyper_begins}
 use Rattle.xdr.proofs.Pasting.{pasted_front, pasted_then}
 use Rattle.xdr.specs.Layout.{int, hyper, pasted}
-use Rattle.counter.specs.Statements.{Stated, head_bytes, Fits, StatementsApart}
+use Rattle.counter.specs.Statements.{Stated, head_bytes, StatementsApart}
 
 -- three ints and two hypers, written one behind the other, fill a buffer of their length
 pub head_written : (s : Stated) (buffer ints news olds : List ℕ) (at behind : ℕ) → length buffer ≡ 28

@@ -1,5 +1,5 @@
 -- The glyph register's rows: looking one up, setting one in its place, and their order.
-use Rattle.std.specs.Prelude.{◌≡◌, ℕ, ◌<◌, ◌≤◌, Bool, true, cond, ◌&&◌, List, [], ◌∷◌, length, set, Some, None, Option, ◌==◌, nat_lt, slice_index_or, slice_set}
+use Rattle.std.specs.Prelude.{◌≡◌, ℕ, ◌<◌, ◌≤◌, Bool, true, cond, ◌&&◌, List, [], ◌∷◌, length, Some, None, Option, ◌==◌, nat_lt, slice_index_or, slice_set}
 use Rattle.std.specs.List.{flat_map, insert}
 use Rattle.xdr.specs.Layout.{int}
 use Rattle.registers.specs.declared.glyph_rows.GlyphRow.{GlyphRow}
