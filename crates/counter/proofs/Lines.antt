@@ -3,7 +3,7 @@ use Rattle.std.proofs.Common.{◌≡◌, ℕ, ◌<◌, ◌≤◌, Bool, true, fa
 use Rattle.std.proofs.ByRecursion.{All-weaker}
 use Rattle.std.proofs.lemmas.List.{length-set, get_or-set_same, get_or-set_other, set_past}
 use Rattle.std.proofs.lemmas.Bool.{not-true, not-false, leb-true, leb-false, ltb-true, ltb-false, cases_eq, cases_lt}
-use Rattle.std.specs.List.{AllByRecursion as All}
+use Rattle.std.specs.List.{AllByRecursion}
 use Rattle.terms.specs.declared.refusals.Refusal.{Refusal}
 use Rattle.terms.specs.declared.refusals.Refusal.TheVariants.{NoSuchCounter, ValueNotAllowed}
 use Rattle.counter.specs.Certificates.{counters, allows, certificate_for, refused_if}
@@ -99,12 +99,12 @@ module _ (rule : Stated → List ℕ) (seat : ℕ) where
       (λ e. let above = on.0 e in omega arith, λ e. let above = on.1 e in omega arith)
 
   -- every statement that calls get a tag for goes on from where they found the counter
-  issued_go_on : (values : List ℕ) (calls : List Call) → All (GoesOn values) (issued rule seat values calls)
+  issued_go_on : (values : List ℕ) (calls : List Call) → AllByRecursion (GoesOn values) (issued rule seat values calls)
   issued_go_on values [] = tt
   issued_go_on values (c ∷ cs) =
       let after : List ℕ = (called rule seat values c).1 in
-      let later : All (GoesOn values) (issued rule seat after cs) = All-weaker (GoesOn after) (GoesOn values) (goes_on_from_below values c) _ (issued_go_on after cs) in
-      by_outcome rule seat values c (λ o. All (GoesOn values) (granted o.0 (certificate_for seat values c.kind c.number c.new c.message) ++ issued rule seat after cs))
+      let later : AllByRecursion (GoesOn values) (issued rule seat after cs) = All-weaker (GoesOn after) (GoesOn values) (goes_on_from_below values c) _ (issued_go_on after cs) in
+      by_outcome rule seat values c (λ o. AllByRecursion (GoesOn values) (granted o.0 (certificate_for seat values c.kind c.number c.new c.message) ++ issued rule seat after cs))
       (λ far. later) (λ banned. later) (λ near allowed. (certificate_goes_on values c.kind c.number c.new c.message allowed, later))
 
   -- what goes on from the values behind a certificate follows it
@@ -120,7 +120,7 @@ module _ (rule : Stated → List ℕ) (seat : ℕ) where
   issued_in_line values (c ∷ cs) three =
       let after : List ℕ = (called rule seat values c).1 in
       let later : InLine (issued rule seat after cs) = issued_in_line after cs (call_length rule seat values c ∙ three) in
-      by_outcome rule seat values c (λ o. All (GoesOn o.1) (issued rule seat after cs) → InLine (granted o.0 (certificate_for seat values c.kind c.number c.new c.message) ++ issued rule seat after cs))
+      by_outcome rule seat values c (λ o. AllByRecursion (GoesOn o.1) (issued rule seat after cs) → InLine (granted o.0 (certificate_for seat values c.kind c.number c.new c.message) ++ issued rule seat after cs))
       (λ far on. later) (λ banned on. later)
       (λ near allowed on. (All-weaker _ _ (λ t from. follows values c t (omega arith) from) _ on, later))
       (issued_go_on after cs)

@@ -1,7 +1,7 @@
 -- What every counter owes, whatever its seat and its tags are: it never falls, refuses nothing but what the rules
 -- refuse, and what it has certified stands in one line.
 use Rattle.std.specs.Prelude.{◌≡◌, ℕ, ◌<◌, ◌≤◌, true, false, List, [], ◌∷◌, ◌++◌, length, is_ok, Ok, Err, Result, ◌≢◌, slice_index}
-use Rattle.std.specs.List.{AllByRecursion as All}
+use Rattle.std.specs.List.{AllByRecursion}
 use Rattle.terms.specs.declared.refusals.Refusal.{Refusal}
 use Rattle.counter.specs.Certificates.{counters, certificate_for, certified}
 use Rattle.counter.specs.Kinds.{kind_number}
@@ -52,7 +52,7 @@ Follows earlier later =
 -- and none has a value above the old and up to the new value of a continuing certificate
 abbrev pub InLine : List Stated → Type 0
 InLine [] = Unit {0}
-InLine (s ∷ later) = All (Follows s) later × InLine later
+InLine (s ∷ later) = AllByRecursion (Follows s) later × InLine later
 
 pub record CounterLaws : Type 0 where
   -- a permitted value of a counter that there is, is never refused

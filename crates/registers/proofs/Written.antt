@@ -1,6 +1,6 @@
 -- The written glyph register: its row count, then its rows.
 use Rattle.std.proofs.Common.{◌≡◌, ℕ, ◌+◌, ◌*◌, ◌<◌, ◌≤◌, List, length, Some, None, sym, refl, ◌∙◌, arith, rules}
-use Rattle.std.specs.List.{flat_map, AllByRecursion as All}
+use Rattle.std.specs.List.{flat_map, AllByRecursion}
 use Rattle.xdr.specs.Layout.{int, counted, pasted}
 use Rattle.xdr.proofs.Listing.{length-joined, length-counted}
 use Rattle.xdr.proofs.Pasting.{pasted_then}
@@ -11,7 +11,7 @@ use Rattle.registers.specs.declared.glyph_rows.GlyphRow.{GlyphRow}
 use Rattle.registers.specs.Glyphs.{glyphs_written}
 use Rattle.registers.specs.Rows.{row_bytes}
 
-twelve_bytes : (rows : List GlyphRow) → All (λ row. length (row_bytes row) ≡ 12) rows
+twelve_bytes : (rows : List GlyphRow) → AllByRecursion (λ row. length (row_bytes row) ≡ 12) rows
 twelve_bytes rows = every (λ row. length (row_bytes row) ≡ 12) (λ row. search rules) rows
 
 pub length-written : (rows : List GlyphRow) → length (glyphs_written rows) ≡ 4 + 12 * length rows

@@ -1,6 +1,6 @@
 -- Sessions apply a request once, and repeat its reply.
 use Rattle.std.proofs.Common.{◌≡◌, ℕ, ◌<◌, Bool, true, false, cond, ◌||◌, eqb, ltb, leb, List, length, get_or, set, sym, refl, ap, ◌∙◌, ⊎_elim, arith}
-use Rattle.std.specs.List.{AllByRecursion as All}
+use Rattle.std.specs.List.{AllByRecursion}
 use Rattle.std.proofs.ByRecursion.{All-set, All-get_or}
 use Rattle.std.proofs.lemmas.List.{get_or-set_same, get_or-set_other, get_or_past}
 use Rattle.std.proofs.lemmas.Bool.{and_parts, ltb-true, cases_Bool, cases_lt}
@@ -67,7 +67,7 @@ module _ {St : Type 0} (next : St → Request → St) (reply : St → Request �
       (λ old. rw (unchanged s r old) refl)
       (cases_Bool (is_new s.0 r))
 
-  kept_valueless : (kept : List Kept) (client : ℕ) → All (λ k. Valueless k.reply) kept → Valueless (get_or kept client nothing_kept).reply
+  kept_valueless : (kept : List Kept) (client : ℕ) → AllByRecursion (λ k. Valueless k.reply) kept → Valueless (get_or kept client nothing_kept).reply
   kept_valueless kept client all =
       ⊎_elim
       (λ within. All-get_or (λ k. Valueless k.reply) kept client nothing_kept within all)
@@ -81,8 +81,8 @@ module _ {St : Type 0} (next : St → Request → St) (reply : St → Request �
   reply_valueless false false true kept below k b = k
   reply_valueless false false false kept below k b = b
 
-  valueless : FailureHasNoValue next reply → (s : List Kept × St) (r : Request) → All (λ k. Valueless k.reply) s.0
-      → Valueless (session_reply reply s r) × All (λ k. Valueless k.reply) (session_next next reply s r).0
+  valueless : FailureHasNoValue next reply → (s : List Kept × St) (r : Request) → AllByRecursion (λ k. Valueless k.reply) s.0
+      → Valueless (session_reply reply s r) × AllByRecursion (λ k. Valueless k.reply) (session_next next reply s r).0
   valueless below s r all = (
     reply_valueless (leb clients r.client) (eqb r.sequence 0 || ltb r.sequence (kept_for s.0 r).sequence) (eqb r.sequence (kept_for s.0 r).sequence) _ _ (kept_valueless s.0 r.client all) (below s.1 r),
     ⊎_elim

@@ -1,6 +1,6 @@
 -- What a reader expects of a service, and what sessions promise over any service.
 use Rattle.std.specs.Prelude.{◌≡◌, ℕ, true, false, List, length, ◌≢◌, slice_index_or}
-use Rattle.std.specs.List.{AllByRecursion as All}
+use Rattle.std.specs.List.{AllByRecursion}
 use Rattle.terms.specs.declared.requests.Request.{Request}
 use Rattle.service.specs.declared.kept.Kept.{Kept}
 use Rattle.service.specs.Sessions.{clients, nothing_kept, is_new, session_reply, session_next}
@@ -31,5 +31,5 @@ module _ {St : Type 0} (next : St → Request → St) (reply : St → Request �
     -- if a failure changes nothing below, neither does one that sessions answer
     pub quiet : FailureChangesNothing → (s : List Kept × St) (r : Request) → ((session_reply reply s r).0 ≢ 0) → (session_next next reply s r).1 ≡ s.1
     -- if a failure has no value below, neither has one that sessions answer, now or after any request
-    pub valueless : FailureHasNoValue → (s : List Kept × St) (r : Request) → All (λ k. Valueless k.reply) s.0
-        → Valueless (session_reply reply s r) × All (λ k. Valueless k.reply) (session_next next reply s r).0
+    pub valueless : FailureHasNoValue → (s : List Kept × St) (r : Request) → AllByRecursion (λ k. Valueless k.reply) s.0
+        → Valueless (session_reply reply s r) × AllByRecursion (λ k. Valueless k.reply) (session_next next reply s r).0

@@ -1,6 +1,6 @@
 -- Counted lists are exact whatever their elements are, and what a loop over the elements needs to know.
 use Rattle.std.proofs.Common.{◌≡◌, ℕ, zero, suc, ◌+◌, ◌-◌, ◌*◌, ◌^◌, ◌<◌, ◌≤◌, List, [], ◌∷◌, ◌++◌, length, get_or, take, drop, Some, None, Option, sym, refl, ap, ◌∙◌, subst, append_assoc, suc-add, mul-zero, zero-add, mul-suc, arith, length-append}
-use Rattle.std.specs.List.{flat_map, AllByRecursion as All}
+use Rattle.std.specs.List.{flat_map, AllByRecursion}
 use Rattle.std.proofs.lemmas.List.{take_at, drop_at, drop-drop}
 use Rattle.xdr.specs.Layout.{counted}
 use Rattle.xdr.specs.Laws.{Bytes, Exact}
@@ -9,30 +9,30 @@ use Rattle.xdr.proofs.Exactness.{answer_parts, then_parts, then_exact, rest_byte
 use Rattle.xdr.proofs.Numbers.{counts_exact}
 
 module _ {X : Type 0} {fits : X → Type 0} {write : X → List ℕ} {read : List ℕ → Option (X × List ℕ)} (exact : Exact fits write read) where
-  times_back : (xs : List X) (rest : List ℕ) → All fits xs → times_from read (length xs) (flat_map write xs ++ rest) ≡ Some (xs, rest)
+  times_back : (xs : List X) (rest : List ℕ) → AllByRecursion fits xs → times_from read (length xs) (flat_map write xs ++ rest) ≡ Some (xs, rest)
   unfolding times_from
   times_back [] rest h = refl
   times_back (x ∷ xs) rest h = rw (append_assoc, exact.back x (flat_map write xs ++ rest) h.0, times_back xs rest h.1)
 
-  times_only : (n : ℕ) (bytes : List ℕ) (xs : List X) (rest : List ℕ) → Bytes bytes → times_from read n bytes ≡ Some (xs, rest) → (bytes ≡ flat_map write xs ++ rest) × ((length xs ≡ n) × All fits xs)
+  times_only : (n : ℕ) (bytes : List ℕ) (xs : List X) (rest : List ℕ) → Bytes bytes → times_from read n bytes ≡ Some (xs, rest) → (bytes ≡ flat_map write xs ++ rest) × ((length xs ≡ n) × AllByRecursion fits xs)
   unfolding times_from
   times_only zero bytes xs rest h e =
       let same = answer_parts [] xs bytes rest e in
-      subst (λ (ys : List X). (bytes ≡ flat_map write ys ++ rest) × ((length ys ≡ 0) × All fits ys)) same.0 (same.1, (refl, tt))
+      subst (λ (ys : List X). (bytes ≡ flat_map write ys ++ rest) × ((length ys ≡ 0) × AllByRecursion fits ys)) same.0 (same.1, (refl, tt))
   times_only (suc n) bytes xs rest h e =
       let (p, first, e') = then_parts (read bytes) _ (xs, rest) e in
       let (q, others, e'') = then_parts (times_from read n p.1) _ (xs, rest) e' in
       joins p.0 p.1 q.0 q.1 first (times_only n p.1 q.0 q.1 (rest_bytes exact bytes p.0 p.1 h first) others) e''
     where
-      joins : (x : X) (behind : List ℕ) (ys : List X) (end : List ℕ) → read bytes ≡ Some (x, behind) → (behind ≡ flat_map write ys ++ end) × ((length ys ≡ n) × All fits ys) → ◌≡◌ {A = Option (List X × List ℕ)} (Some (x ∷ ys, end)) (Some (xs, rest)) → (bytes ≡ flat_map write xs ++ rest) × ((length xs ≡ suc n) × All fits xs)
+      joins : (x : X) (behind : List ℕ) (ys : List X) (end : List ℕ) → read bytes ≡ Some (x, behind) → (behind ≡ flat_map write ys ++ end) × ((length ys ≡ n) × AllByRecursion fits ys) → ◌≡◌ {A = Option (List X × List ℕ)} (Some (x ∷ ys, end)) (Some (xs, rest)) → (bytes ≡ flat_map write xs ++ rest) × ((length xs ≡ suc n) × AllByRecursion fits xs)
       joins x behind ys end first more last =
           let same = answer_parts (x ∷ ys) xs end rest last in
           let one = exact.only bytes x behind h first in
           let whole : bytes ≡ flat_map write (x ∷ ys) ++ rest = one.0 ∙ rw (more.0, same.1, append_assoc) in
-          subst (λ (zs : List X). (bytes ≡ flat_map write zs ++ rest) × ((length zs ≡ suc n) × All fits zs)) same.0 (whole, (ap suc more.1.0, (one.1, more.1.1)))
+          subst (λ (zs : List X). (bytes ≡ flat_map write zs ++ rest) × ((length zs ≡ suc n) × AllByRecursion fits zs)) same.0 (whole, (ap suc more.1.0, (one.1, more.1.1)))
 
   -- so many elements one behind the other
-  pub times_exact : (n : ℕ) → Exact (λ xs. (length xs ≡ n) × All fits xs) (flat_map write) (times_from read n)
+  pub times_exact : (n : ℕ) → Exact (λ xs. (length xs ≡ n) × AllByRecursion fits xs) (flat_map write) (times_from read n)
   times_exact n =
       record {
         back = λ xs rest f. subst (λ (k : ℕ). times_from read k (flat_map write xs ++ rest) ≡ Some (xs, rest)) f.0 (times_back xs rest f.1);
@@ -40,7 +40,7 @@ module _ {X : Type 0} {fits : X → Type 0} {write : X → List ℕ} {read : Lis
       }
 
   -- a counted list
-  pub lists_exact : (most : ℕ) → most < 2 ^ 32 → Exact (λ xs. (length xs ≤ most) × All fits xs) (counted write) (list_from read most)
+  pub lists_exact : (most : ℕ) → most < 2 ^ 32 → Exact (λ xs. (length xs ≤ most) × AllByRecursion fits xs) (counted write) (list_from read most)
   unfolding counted
   lists_exact most small = then_exact (counts_exact most small) length (λ n _. times_exact n)
 
@@ -86,16 +86,16 @@ module _ {X : Type 0} (read : List ℕ → Option (X × List ℕ)) where
       let left : n ≡ i + suc (n - suc i) = omega arith in
       ap (λ (k : ℕ). times_from read k bytes) left ∙ times_add i (suc (n - suc i)) bytes ∙ rw (e, f)
 
-pub length-joined : {X : Type 0} (each : X → List ℕ) (width : ℕ) (xs : List X) → All (λ x. length (each x) ≡ width) xs → length (flat_map each xs) ≡ width * length xs
+pub length-joined : {X : Type 0} (each : X → List ℕ) (width : ℕ) (xs : List X) → AllByRecursion (λ x. length (each x) ≡ width) xs → length (flat_map each xs) ≡ width * length xs
 length-joined each width [] h = sym (mul-zero width)
 length-joined each width (x ∷ xs) h = rw length-append (omega (arith, h.0, length-joined each width xs h.1, mul-suc width (length xs)))
 
-pub length-counted : {X : Type 0} (each : X → List ℕ) (width : ℕ) (xs : List X) → All (λ x. length (each x) ≡ width) xs → length (counted each xs) ≡ 4 + width * length xs
+pub length-counted : {X : Type 0} (each : X → List ℕ) (width : ℕ) (xs : List X) → AllByRecursion (λ x. length (each x) ≡ width) xs → length (counted each xs) ≡ 4 + width * length xs
 unfolding counted
 length-counted each width xs h = omega (arith, length-joined each width xs h)
 
 -- the element at a place, where each has the same width
-pub element_at : {X : Type 0} (each : X → List ℕ) (width : ℕ) (xs : List X) (i : ℕ) (d : X) → All (λ x. length (each x) ≡ width) xs → i < length xs → take width (drop (width * i) (flat_map each xs)) ≡ each (get_or xs i d)
+pub element_at : {X : Type 0} (each : X → List ℕ) (width : ℕ) (xs : List X) (i : ℕ) (d : X) → AllByRecursion (λ x. length (each x) ≡ width) xs → i < length xs → take width (drop (width * i) (flat_map each xs)) ≡ each (get_or xs i d)
 element_at each width [] i d h l = absurd (omega arith)
 element_at each width (x ∷ xs) zero d h l = rw mul-zero (take_at (each x) (flat_map each xs) width h.0)
 element_at each width (x ∷ xs) (suc i) d h l =

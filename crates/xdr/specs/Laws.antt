@@ -1,13 +1,13 @@
 -- What reading and writing owe one another.
 use Rattle.std.specs.Prelude.{◌≡◌, ℕ, ◌^◌, ◌<◌, ◌≤◌, Bool, true, List, ◌++◌, length, Some, Option}
 use Rattle.std.specs.Option.{option_map}
-use Rattle.std.specs.List.{flat_map, AllByRecursion as All}
+use Rattle.std.specs.List.{flat_map, AllByRecursion}
 use Rattle.xdr.specs.Layout.{int, hyper, fixed, counted}
 use Rattle.xdr.specs.Reading.{int_from, hyper_from, opaque_from, count_from, list_from, rows_from}
 
 -- every element is a byte
 abbrev pub Bytes : List ℕ → Type 0
-Bytes bytes = All (λ b. b < 256) bytes
+Bytes bytes = AllByRecursion (λ b. b < 256) bytes
 
 -- a writing of the values that fit, and the reading that undoes it
 pub record Exact {X : Type 0} (fits : X → Type 0) (write : X → List ℕ) (read : List ℕ → Option (X × List ℕ)) : Type 0 where
@@ -38,11 +38,11 @@ abbrev pub ListsExact : Type 0 → Type 0
 ListsExact X =
     (fits : X → Bool) (write : X → List ℕ) (read : List ℕ → Option (X × List ℕ)) (most : ℕ) → most < 2 ^ 32
     → Exact (λ x. fits x ≡ true) write read
-    → Exact (λ xs. (length xs ≤ most) × All (λ x. fits x ≡ true) xs) (counted write) (list_from read most)
+    → Exact (λ xs. (length xs ≤ most) × AllByRecursion (λ x. fits x ≡ true) xs) (counted write) (list_from read most)
 
 -- a counted list whose elements are all of one width
 abbrev pub RowsExact : Type 0
-RowsExact = (width most : ℕ) → most < 2 ^ 32 → Exact (λ rows. (length rows ≤ most) × All (λ row. length row ≡ width) rows) (counted fixed) (list_from (opaque_from width) most)
+RowsExact = (width most : ℕ) → most < 2 ^ 32 → Exact (λ rows. (length rows ≤ most) × AllByRecursion (λ row. length row ≡ width) rows) (counted fixed) (list_from (opaque_from width) most)
 
 -- what was read element by element, with the bytes of the elements together
 abbrev pub together : List (List ℕ) × List ℕ → List ℕ × List ℕ
