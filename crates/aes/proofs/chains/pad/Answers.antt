@@ -15,4 +15,4 @@ marked b front e h =
     ∙ set_at b 0 (replicate (15 - length b) 0) 0x80 (length b) refl
 
 pub returns : goal.returns
-returns c = marked c.args.bytes.now c.copy-from-slice.new.self c.copy-from-slice.ensures.after c.requires
+returns c = marked c.args.bytes.now c.copy_from_slice.new.self c.copy_from_slice.ensures.after c.requires

@@ -6,13 +6,13 @@ pub returns : goal.returns
 unfolding xors next_key
 returns c =
     simp (
-      c.xor-words-w3.ensures,
-      c.xor-words-w2.ensures,
-      c.xor-words-w1.ensures,
-      c.xor-words-w0.ensures,
-      c.xor-words-temp.ensures,
-      c.sub-word.ensures,
-      c.rot-word.ensures,
+      c.xor_words-w3.ensures,
+      c.xor_words-w2.ensures,
+      c.xor_words-w1.ensures,
+      c.xor_words-w0.ensures,
+      c.xor_words-temp.ensures,
+      c.sub_word.ensures,
+      c.rot_word.ensures,
       c.word.ensures,
       c.word-2.ensures,
       c.word-3.ensures,

@@ -4,4 +4,4 @@ use Rattle.aes.proofs.rounds.mix_columns.Goals as goal
 
 pub returns : goal.returns
 unfolding mix_column mix_columns
-returns c = simp (c.mix-column.ensures, c.mix-column-2.ensures, c.mix-column-3.ensures, c.mix-column-4.ensures)
+returns c = simp (c.mix_column.ensures, c.mix_column-2.ensures, c.mix_column-3.ensures, c.mix_column-4.ensures)

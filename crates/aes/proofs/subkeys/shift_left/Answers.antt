@@ -12,7 +12,7 @@ moved b k = moved_left (get_or b k 0) (get_or b (k + 1) 0)
 pub loop-i-preserved : goal.loop-i-preserved
 loop-i-preserved c = (
   simp length-set c.loop-i.invariant.0,
-  simp c.move-left.ensures (fill_by_more (moved c.args.block) c.loop-i.r c.loop-i.i 0 (omega arith) c.loop-i.invariant.1),
+  simp c.move_left.ensures (fill_by_more (moved c.args.block) c.loop-i.r c.loop-i.i 0 (omega arith) c.loop-i.invariant.1),
 )
 
 closed : (b r : List ℕ) (last : ℕ) → length b ≡ 16 → length r ≡ 16 → ((k : ℕ) → k < 15 → get_or r k 0 ≡ moved b k) → last ≡ moved_left (get_or b 15 0) 0 → set r 15 last ≡ shift_left b
@@ -23,4 +23,4 @@ closed b r last lb lr each e =
     ap (set r 15) fifteenth ∙ fill_by_all (moved b) (set r 15 (moved b 15)) 16 0 (length-set r 15 (moved b 15) ∙ lr) (fill_by_more (moved b) r 15 0 (omega arith) each)
 
 pub returns : goal.returns
-returns c = closed c.args.block c.loop-i.r c.move-left-2.result (omega arith) c.loop-i.invariant.0 (λ k h. c.loop-i.invariant.1 k (omega arith)) c.move-left-2.ensures
+returns c = closed c.args.block c.loop-i.r c.move_left-2.result (omega arith) c.loop-i.invariant.0 (λ k h. c.loop-i.invariant.1 k (omega arith)) c.move_left-2.ensures

@@ -10,7 +10,7 @@ pub loop-t-preserved : goal.loop-t-preserved
 unfolding word
 loop-t-preserved c = (
   simp length-set c.loop-t.invariant.0,
-  rw c.from-be-bytes.ensures (fill_by_more (word c.args.block.now) c.loop-t.w c.loop-t.t 0 (omega arith) c.loop-t.invariant.1),
+  rw c.from_be_bytes.ensures (fill_by_more (word c.args.block.now) c.loop-t.w c.loop-t.t 0 (omega arith) c.loop-t.invariant.1),
 )
 
 pub returns : goal.returns

@@ -11,8 +11,8 @@ loop-i-preserved c =
     let i = c.loop-i.i in
     let h = c.args.h in
     let digest = c.loop-i.digest in
-    let new = c.copy-from-slice.new.self in
-    let word : new ≡ be32 (get_or h i 0) = c.copy-from-slice.ensures.after ∙ c.to-be-bytes.ensures in
+    let new = c.copy_from_slice.new.self in
+    let word : new ≡ be32 (get_or h i 0) = c.copy_from_slice.ensures.after ∙ c.to_be_bytes.ensures in
     let four : length new ≡ 4 = ap length word in
     let words = take_more h i 0 (search rules) in (
       search (rules, places),

@@ -8,5 +8,5 @@ unfolding rotr
 returns c =
     let right : c.args.n % 32 ≡ c.args.n = omega arith in
     let left : (32 - c.args.n % 32) % 32 ≡ 32 - c.args.n = omega arith in
-    let rotated = c.rotate-right.ensures in
+    let rotated = c.rotate_right.ensures in
     cc

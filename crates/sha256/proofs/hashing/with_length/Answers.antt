@@ -10,8 +10,8 @@ unfolding be64
 returns c =
     let at = c.args.at in
     let closed = c.args.closed in
-    let new = c.copy-from-slice.new.self in
-    let written : new ≡ be64 (8 * c.args.count) = c.copy-from-slice.ensures.after ∙ c.to-be-bytes.ensures ∙ bits_written c.args.count in
+    let new = c.copy_from_slice.new.self in
+    let written : new ≡ be64 (8 * c.args.count) = c.copy_from_slice.ensures.after ∙ c.to_be_bytes.ensures ∙ bits_written c.args.count in
     let eight : length new ≡ 8 = ap length written in
     let room : at ≤ length closed = search rules in
     take-put_mid at (at + 8 - at) closed new (at + 8) (omega arith) room ∙ ap (λ x. take at closed ++ x) written

@@ -17,4 +17,4 @@ returns c =
     let keys = c.args.self.now.keys in
     let nine : c.loop-t.t - 1 ≡ 9 = omega arith in
     let state = c.loop-t.invariant ∙ ap (rounds keys c.xor-s.result) nine ∙ ap (λ s. rounds keys s 9) c.xor-s.ensures in
-    c.last-round.ensures ∙ ap (λ s. last_round s (get_or keys 10 [])) state
+    c.last_round.ensures ∙ ap (λ s. last_round s (get_or keys 10 [])) state

@@ -14,7 +14,7 @@ loop-t-init c = (refl, refl, refl, λ k h. let zeroth : k ≡ 0 = omega arith in
 
 pub loop-t-preserved : goal.loop-t-preserved
 loop-t-preserved c =
-    let next : c.next-key-next.result ≡ round_key c.args.key.now (c.loop-t.t + 1) =
+    let next : c.next_key-next.result ≡ round_key c.args.key.now (c.loop-t.t + 1) =
     let more = key_more c.args.key.now c.loop-t.t in
     let last = c.loop-t.invariant.1 in
     let byte = c.loop-t.invariant.2 in

@@ -6,4 +6,4 @@ use Rattle.aes.proofs.macs.CmacKey.new.Goals as goal
 
 pub returns : goal.returns
 unfolding xors block_at chained tag_under
-returns c = λ m. simp (c.double-block-k2.ensures, c.double-block-k1.ensures, c.chain-blocks-l.ensures, c.new-aes.ensures.keys)
+returns c = λ m. simp (c.double_block-k2.ensures, c.double_block-k1.ensures, c.chain_blocks-l.ensures, c.new-aes.ensures.keys)

@@ -12,7 +12,7 @@ returns c =
     let k = c.args.self.now in
     let m = c.args.bytes.now in
     let j : ℕ = (length c.args.bytes.now - 1) / 16 in
-    let whole : c.saturating-sub.result / 16 * 16 ≡ 16 * ((length c.args.bytes.now - 1) / 16) = omega (arith, c.saturating-sub.ensures) in
-    let end : c.saturating-sub.result / 16 * 16 - 0 ≡ 16 * ((length c.args.bytes.now - 1) / 16) = omega arith in
-    in_two (cipher k.aes.keys) k.k1 k.k2 _ m _ _ c.chain-blocks-x.result c.close.result j (omega arith)
-    (ap (λ n. take n m) end) (take_rest m _ ∙ ap (λ n. drop n m) whole) c.chain-blocks-x.ensures c.close.ensures
+    let whole : c.saturating_sub.result / 16 * 16 ≡ 16 * ((length c.args.bytes.now - 1) / 16) = omega (arith, c.saturating_sub.ensures) in
+    let end : c.saturating_sub.result / 16 * 16 - 0 ≡ 16 * ((length c.args.bytes.now - 1) / 16) = omega arith in
+    in_two (cipher k.aes.keys) k.k1 k.k2 _ m _ _ c.chain_blocks-x.result c.close.result j (omega arith)
+    (ap (λ n. take n m) end) (take_rest m _ ∙ ap (λ n. drop n m) whole) c.chain_blocks-x.ensures c.close.ensures

@@ -11,5 +11,5 @@ returns c =
     let s = c.args.self.now in
     record {
       held = refl;
-      more = held_more (cipher s.key.now.aes.keys) s.key.now.k1 s.key.now.k2 s.x s.buf c.copy-from-slice.new.self c.args.bytes.now s.fill _ c.copy-from-slice.ensures.after (omega arith);
+      more = held_more (cipher s.key.now.aes.keys) s.key.now.k1 s.key.now.k2 s.x s.buf c.copy_from_slice.new.self c.args.bytes.now s.fill _ c.copy_from_slice.ensures.after (omega arith);
     }

@@ -17,6 +17,6 @@ returns c = λ rest.
     let whole : (length c.args.bytes.now - 1) / 16 * 16 - 0 ≡ 16 * ((length c.args.bytes.now - 1) / 16) = omega arith in
     let place : (length c.args.bytes.now - 1) / 16 * 16 ≡ 16 * ((length c.args.bytes.now - 1) / 16) = omega arith in
     c.hold.ensures.more rest
-    ∙ past_all E s.key.now.k1 s.key.now.k2 s.x s.buf bytes rest j c.chain-blocks-x.result c.chain-blocks-next.result _ _
-    (omega arith) (omega arith) c.chain-blocks-x.ensures (ap (λ n. take n bytes) whole) (take_rest bytes _ ∙ ap (λ n. drop n bytes) place) c.chain-blocks-next.ensures
+    ∙ past_all E s.key.now.k1 s.key.now.k2 s.x s.buf bytes rest j c.chain_blocks-x.result c.chain_blocks-next.result _ _
+    (omega arith) (omega arith) c.chain_blocks-x.ensures (ap (λ n. take n bytes) whole) (take_rest bytes _ ∙ ap (λ n. drop n bytes) place) c.chain_blocks-next.ensures
     ∙ ap (λ n. cmac_from E s.key.now.k1 s.key.now.k2 s.x (take n s.buf ++ (bytes ++ rest))) (sym c.requires.0)

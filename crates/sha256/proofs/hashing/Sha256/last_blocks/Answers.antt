@@ -19,8 +19,8 @@ returns c =
     record {
       within = omega arith;
       value =
-          c.with-length.ensures
-          ∙ ap (λ x. take (fill + 1 + (119 - fill) % 64) x ++ be64 (8 * self.count)) c.with-one-bit-closed.ensures
+          c.with_length.ensures
+          ∙ ap (λ x. take (fill + 1 + (119 - fill) % 64) x ++ be64 (8 * self.count)) c.with_one_bit-closed.ensures
           ∙ padding_last waits fill ((119 - fill) % 64) self.count many c.fill-fill.ensures refl
           ∙ ap (λ n. take n self.block ++ padding (self.count + 0)) front;
     }

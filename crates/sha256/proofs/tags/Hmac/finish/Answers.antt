@@ -11,5 +11,5 @@ returns c =
     let outer = c.args.self.outer in
     c.finish.ensures
     ∙ c.update.ensures []
-    ∙ c.after-block-outer.ensures (inner ++ [])
+    ∙ c.after_block-outer.ensures (inner ++ [])
     ∙ ap (digest_from outer) (append-nil inner ∙ c.finish-inner.ensures)

@@ -10,6 +10,6 @@ pub returns : goal.returns
 unfolding hmac tag_under
 returns c = λ m.
     let key = c.ready.result in
-    let long : length c.block-key.result ≡ 64 = search rules in
-    tags_from c.block-key.result key.inner key.outer m long c.ready.ensures.inner c.ready.ensures.outer
-    ∙ ap (λ k. sha256 (xored k opad ++ sha256 (xored k ipad ++ m))) c.block-key.ensures
+    let long : length c.block_key.result ≡ 64 = search rules in
+    tags_from c.block_key.result key.inner key.outer m long c.ready.ensures.inner c.ready.ensures.outer
+    ∙ ap (λ k. sha256 (xored k opad ++ sha256 (xored k ipad ++ m))) c.block_key.ensures

@@ -5,4 +5,4 @@ use Rattle.sha256.proofs.tags.HmacKey.start.Goals as goal
 
 pub returns : goal.returns
 unfolding tag_under tag_after
-returns c = λ rest. ap (digest_from c.args.self.now.outer) (c.after-block.ensures rest)
+returns c = λ rest. ap (digest_from c.args.self.now.outer) (c.after_block.ensures rest)
