@@ -7,17 +7,20 @@ mod works;
 
 use script::{Hex, read_number};
 use std::env;
+use std::process::ExitCode;
 use std::time::Instant;
 use stops::Stop;
 use works::{WORKS, Work};
 
-fn main(rt: HostRuntime) -> Result<(), Stop> {
-    let outcome = run(&rt);
-    if let Err(stop) = &outcome {
-        // Where even this cannot be said, the exit status still tells.
-        let _ = eprintln!(rt; "{stop}");
+fn main(rt: HostRuntime) -> ExitCode {
+    match run(&rt) {
+        Ok(()) => ExitCode::SUCCESS,
+        Err(stop) => {
+            // Where even this cannot be said, the exit status still tells.
+            let _ = eprintln!(rt; "{stop}");
+            ExitCode::FAILURE
+        }
     }
-    outcome
 }
 
 fn run(rt: &HostRuntime) -> Result<(), Stop> {

@@ -44,13 +44,13 @@ impl fmt::Display for Work {
 impl Work {
     /// The work that an argument names.
     pub fn named(word: &[u8]) -> Option<Work> {
-        if word == b"sha256" {
+        if word == b"sha256".as_slice() {
             Some(Work::Digests)
-        } else if word == b"hmac" {
+        } else if word == b"hmac".as_slice() {
             Some(Work::HmacTags)
-        } else if word == b"cmac" {
+        } else if word == b"cmac".as_slice() {
             Some(Work::LongCmacTags)
-        } else if word == b"cmac-tags" {
+        } else if word == b"cmac-tags".as_slice() {
             Some(Work::CmacTags)
         } else {
             None
@@ -97,8 +97,8 @@ fn cmac_tags(message: &mut [u8], count: u32) {
 }
 
 // Writes a result over the front of a message, where it fits.
-fn overwrite(message: &mut [u8], res: &[u8]) {
-    if res.len() <= message.len() {
-        message[..result.len()].copy_from_slice(res);
+fn overwrite(message: &mut [u8], bytes: &[u8]) {
+    if bytes.len() <= message.len() {
+        message[..bytes.len()].copy_from_slice(bytes);
     }
 }

@@ -31,17 +31,17 @@ impl fmt::Display for Function {
 impl Function {
     /// The function that a line names.
     pub fn named(word: &[u8]) -> Option<Function> {
-        if word == b"sha256" {
+        if word == b"sha256".as_slice() {
             Some(Function::Sha256)
-        } else if word == b"hmac" {
+        } else if word == b"hmac".as_slice() {
             Some(Function::Hmac)
-        } else if word == b"double" {
+        } else if word == b"double".as_slice() {
             Some(Function::Double)
-        } else if word == b"aes" {
+        } else if word == b"aes".as_slice() {
             Some(Function::Aes)
-        } else if word == b"double-block" {
+        } else if word == b"double-block".as_slice() {
             Some(Function::DoubleBlock)
-        } else if word == b"cmac" {
+        } else if word == b"cmac".as_slice() {
             Some(Function::Cmac)
         } else {
             None
