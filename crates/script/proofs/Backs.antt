@@ -3,7 +3,7 @@ use Rattle.std.proofs.Common.{◌≡◌, ℕ, ◌<◌, true, List, [], ◌∷◌
 use Rattle.std.proofs.lemmas.Bool.{and_parts}
 use Rattle.std.proofs.lemmas.Bool.Decides.{nat_tests}
 use Rattle.std.specs.Char.{is_ascii_digit}
-use Rattle.std.specs.List.{AllByRecursion as All}
+use Rattle.std.specs.List.{AllByRecursion}
 use Rattle.std.specs.Str.{all_ascii_digits}
 use Rattle.script.specs.Cutting.{belongs, words_of, IsWord}
 use Rattle.script.specs.Entries.{entry_of, numbers_of, EntriesReadBack}
@@ -28,13 +28,13 @@ headers_read_back (Register SessionsRelease) = refl
 digit_in_word : (d : ℕ) → is_ascii_digit d ≡ true → belongs Word d ≡ true
 digit_in_word d digit = grind (arith, nat_tests)
 
-digits_in_word : (ds : List ℕ) → all_ascii_digits ds ≡ true → All (λ b. belongs Word b ≡ true) ds
+digits_in_word : (ds : List ℕ) → all_ascii_digits ds ≡ true → AllByRecursion (λ b. belongs Word b ≡ true) ds
 digits_in_word [] digits = tt
 digits_in_word (d ∷ ds) digits =
     let both = and_parts (is_ascii_digit d) (all_ascii_digits ds) digits in
     (digit_in_word d both.0, digits_in_word ds both.1)
 
-decimals_are_words : (ns : List ℕ) → All (λ n. n < number_bound) ns → All IsWord (map decimal ns)
+decimals_are_words : (ns : List ℕ) → AllByRecursion (λ n. n < number_bound) ns → AllByRecursion IsWord (map decimal ns)
 decimals_are_words [] small = tt
 decimals_are_words (n ∷ ns) small =
     ((decimal_not_empty n small.0, digits_in_word (decimal n) (decimal_digits n small.0)), decimals_are_words ns small.1)

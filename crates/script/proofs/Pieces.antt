@@ -3,7 +3,7 @@ use Rattle.std.proofs.Common.{◌≡◌, ℕ, ◌<◌, true, false, cond, List, 
 use Rattle.std.proofs.lemmas.List.{append-nil}
 use Rattle.std.proofs.lemmas.Bool.{cases_Bool, both_ways}
 use Rattle.std.proofs.lemmas.Bool.Decides.{nat_tests}
-use Rattle.std.specs.List.{AllByRecursion as All}
+use Rattle.std.specs.List.{AllByRecursion}
 use Rattle.script.specs.Cutting.{is_blank, is_hash, belongs, front, behind, uncommented, pieces, full, words_of, behind_blank, IsWord, WordsCutBack}
 use Rattle.script.specs.declared.cutting.Run.TheVariants.{Blanks, Word}
 use Rattle.script.proofs.Runs.{front_on, front_off, behind_on, behind_off}
@@ -80,7 +80,7 @@ one_word line some =
     skip line ∙ ap full (first_piece rest) ∙ full_on (front Word rest) (later (behind Word rest)) some ∙ ap (λ (ws : List (List ℕ)). front Word rest ∷ ws) (later_words rest)
 
 -- a word in front of more text
-uncommented_on : (w text : List ℕ) → All (λ b. belongs Word b ≡ true) w → uncommented (w ++ text) ≡ w ++ uncommented text
+uncommented_on : (w text : List ℕ) → AllByRecursion (λ b. belongs Word b ≡ true) w → uncommented (w ++ text) ≡ w ++ uncommented text
 uncommented_on [] text each = refl
 uncommented_on (b ∷ bs) text each = elim (kind b) [
   | part on solid plain ↦ simp (plain, uncommented_on bs text each.1)
@@ -88,7 +88,7 @@ uncommented_on (b ∷ bs) text each = elim (kind b) [
   | gap off blank plain ↦ absurd (both_ways (belongs Word b) off each.0)
 ]
 
-pieces_on : (w text piece : List ℕ) (ps : List (List ℕ)) → All (λ b. belongs Word b ≡ true) w → pieces text ≡ piece ∷ ps → pieces (w ++ text) ≡ (w ++ piece) ∷ ps
+pieces_on : (w text piece : List ℕ) (ps : List (List ℕ)) → AllByRecursion (λ b. belongs Word b ≡ true) w → pieces text ≡ piece ∷ ps → pieces (w ++ text) ≡ (w ++ piece) ∷ ps
 pieces_on [] text piece ps each e = e
 pieces_on (b ∷ bs) text piece ps each e = elim (kind b) [
   | part on solid plain ↦ simp (solid, pieces_on bs text piece ps each.1 e)
@@ -97,18 +97,18 @@ pieces_on (b ∷ bs) text piece ps each e = elim (kind b) [
 ]
 
 -- words, each behind one blank
-uncommented_words : (blank : ℕ) (ws : List (List ℕ)) → is_blank blank ≡ true → All IsWord ws → uncommented (behind_blank blank ws) ≡ behind_blank blank ws
+uncommented_words : (blank : ℕ) (ws : List (List ℕ)) → is_blank blank ≡ true → AllByRecursion IsWord ws → uncommented (behind_blank blank ws) ≡ behind_blank blank ws
 uncommented_words blank [] gap' each = refl
 uncommented_words blank (w ∷ ws) gap' each =
     let plain : is_hash blank ≡ false = grind (arith, nat_tests) in
     simp (plain, uncommented_on w (behind_blank blank ws) each.0.1, uncommented_words blank ws gap' each.1)
 
-pieces_words : (blank : ℕ) (ws : List (List ℕ)) → is_blank blank ≡ true → All IsWord ws → pieces (behind_blank blank ws) ≡ [] ∷ ws
+pieces_words : (blank : ℕ) (ws : List (List ℕ)) → is_blank blank ≡ true → AllByRecursion IsWord ws → pieces (behind_blank blank ws) ≡ [] ∷ ws
 pieces_words blank [] gap' each = refl
 pieces_words blank (w ∷ ws) gap' each =
     simp (gap', pieces_on w (behind_blank blank ws) [] ws each.0.1 (pieces_words blank ws gap' each.1), append-nil)
 
-full_words : (ws : List (List ℕ)) → All IsWord ws → full ws ≡ ws
+full_words : (ws : List (List ℕ)) → AllByRecursion IsWord ws → full ws ≡ ws
 full_words [] each = refl
 full_words (w ∷ ws) each = full_on w ws each.0.0 ∙ ap (λ (vs : List (List ℕ)). w ∷ vs) (full_words ws each.1)
 

@@ -2,7 +2,7 @@
 use Rattle.std.proofs.Common.{◌≡◌, ℕ, ◌<◌, true, false, List, [], ◌∷◌, ◌++◌, length, drop, refl, ap, ◌∙◌, ⊎_elim, arith}
 use Rattle.std.proofs.lemmas.List.{append_assoc}
 use Rattle.std.proofs.lemmas.Bool.{cases_Bool}
-use Rattle.std.specs.List.{AllByRecursion as All}
+use Rattle.std.specs.List.{AllByRecursion}
 use Rattle.script.specs.Cutting.{is_line_end, belongs, front, behind, onto, lines_of, ended, LinesCutBack}
 use Rattle.script.specs.declared.cutting.Run.TheVariants.{Line}
 use Rattle.script.proofs.Runs.{front_on, front_off, behind_on, behind_off}
@@ -35,7 +35,7 @@ one_line (b ∷ bs) some =
     (cases_Bool (is_line_end b))
 
 -- a line and its end in front of more text
-line_on : (line text : List ℕ) → All (λ b. is_line_end b ≡ false) line → lines_of (line ++ (10 ∷ text)) ≡ line ∷ lines_of text
+line_on : (line text : List ℕ) → AllByRecursion (λ b. is_line_end b ≡ false) line → lines_of (line ++ (10 ∷ text)) ≡ line ∷ lines_of text
 unfolding lines_of
 line_on [] text each = refl
 line_on (b ∷ bs) text each = simp (each.0, line_on bs text each.1)

@@ -1,6 +1,6 @@
 -- How a text is cut into lines, and a line into words.
 use Rattle.std.specs.Prelude.{◌≡◌, ℕ, ◌<◌, Bool, true, false, cond, not, ◌&&◌, ◌||◌, List, [], ◌∷◌, ◌++◌, length, take, drop, Some, None, Option, ◌==◌}
-use Rattle.std.specs.List.{flat_map, prefix_len, AllByRecursion as All}
+use Rattle.std.specs.List.{flat_map, prefix_len, AllByRecursion}
 use Rattle.script.specs.declared.cutting.Run.{Run}
 use Rattle.script.specs.declared.cutting.Run.TheVariants.{Line, Blanks, Word}
 
@@ -53,7 +53,7 @@ ended lines = flat_map (λ line. line ++ (10 ∷ [])) lines
 
 -- lines with their ends are cut back into themselves
 abbrev pub LinesCutBack : Type 0
-LinesCutBack = (lines : List (List ℕ)) → All (λ line. All (λ b. is_line_end b ≡ false) line) lines → lines_of (ended lines) ≡ lines
+LinesCutBack = (lines : List (List ℕ)) → AllByRecursion (λ line. AllByRecursion (λ b. is_line_end b ≡ false) line) lines → lines_of (ended lines) ≡ lines
 
 -- behind the blanks, the first word and what follows it
 abbrev pub word_then : List ℕ → Option (List ℕ × List ℕ)
@@ -98,8 +98,8 @@ spaced blank (w ∷ ws) = w ++ behind_blank blank ws
 
 -- a word has a byte, and neither a blank nor a comment's beginning
 abbrev pub IsWord : List ℕ → Type 0
-IsWord w = (0 < length w) × All (λ b. belongs Word b ≡ true) w
+IsWord w = (0 < length w) × AllByRecursion (λ b. belongs Word b ≡ true) w
 
 -- words with one blank between them are cut back into themselves
 abbrev pub WordsCutBack : Type 0
-WordsCutBack = (blank : ℕ) (ws : List (List ℕ)) → is_blank blank ≡ true → All IsWord ws → words_of (spaced blank ws) ≡ ws
+WordsCutBack = (blank : ℕ) (ws : List (List ℕ)) → is_blank blank ≡ true → AllByRecursion IsWord ws → words_of (spaced blank ws) ≡ ws

@@ -1,6 +1,6 @@
 -- What the words of an entry line say.
 use Rattle.std.specs.Prelude.{◌≡◌, ℕ, ◌<◌, cond, List, [], ◌∷◌, map, Some, None, Ok, Err, decimal, Option, Result}
-use Rattle.std.specs.List.{AllByRecursion as All}
+use Rattle.std.specs.List.{AllByRecursion}
 use Rattle.terms.specs.declared.requests.Request.{Request}
 use Rattle.script.specs.Cutting.{words_of, spaced}
 use Rattle.script.specs.Faults.{fault_at, and_then, with_number, with_end}
@@ -42,4 +42,4 @@ written entry = spaced 32 (spelling (name_of entry) ∷ map decimal (numbers_of 
 
 -- an entry that is written reads as itself
 abbrev pub EntriesReadBack : Type 0
-EntriesReadBack = (entry : Entry) → All (λ n. n < number_bound) (numbers_of entry) → entry_of (words_of (written entry)) ≡ Ok (Some entry)
+EntriesReadBack = (entry : Entry) → AllByRecursion (λ n. n < number_bound) (numbers_of entry) → entry_of (words_of (written entry)) ≡ Ok (Some entry)
