@@ -8,15 +8,18 @@ mod stops;
 
 use inputs::read_script;
 use plays::play;
+use std::process::ExitCode;
 use stops::Stop;
 
-fn main(rt: HostRuntime) -> Result<(), Stop> {
-    let outcome = run(&rt);
-    if let Err(stop) = &outcome {
-        // Where even this cannot be said, the exit status still tells.
-        let _ = eprintln!(rt; "{stop}");
+fn main(rt: HostRuntime) -> ExitCode {
+    match run(&rt) {
+        Ok(()) => ExitCode::SUCCESS,
+        Err(stop) => {
+            // Where even this cannot be said, the exit status still tells.
+            let _ = eprintln!(rt; "{stop}");
+            ExitCode::FAILURE
+        }
     }
-    outcome
 }
 
 fn run(rt: &HostRuntime) -> Result<(), Stop> {
