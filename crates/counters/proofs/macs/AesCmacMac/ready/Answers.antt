@@ -3,5 +3,5 @@ use Rattle.std.proofs.Common.{length, ap, ◌∙◌}
 use Rattle.counters.specs.Lengths.{cmac-length}
 use Rattle.counters.proofs.macs.AesCmacMac.ready.Goals as goal
 
-pub invariant-of-result : goal.invariant-of-result
-invariant-of-result c = (λ bytes. ap length (c.new.ensures bytes) ∙ cmac-length _ bytes, tt)
+pub invariant_of-result : goal.invariant_of-result
+invariant_of-result c = record { half = λ bytes. ap length (c.new.ensures bytes) ∙ cmac-length _ bytes }
