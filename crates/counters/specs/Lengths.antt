@@ -1,13 +1,12 @@
 -- How long the tags of the published functions are, whatever the key and the message.
-use Rattle.std.specs.Prelude.{◌≡◌, ℕ, zero, suc, ◌+◌, ◌*◌, ◌/◌, ◌≤◌, List, [], ◌∷◌, ◌++◌, length, replicate, slice_index_or, refl}
+use Rattle.std.specs.Prelude.{◌≡◌, ℕ, zero, suc, ◌+◌, ◌*◌, ◌/◌, ◌≤◌, List, [], ◌∷◌, ◌++◌, length, slice_index_or, refl}
 use Rattle.std.proofs.Common.{ap, sym, ◌∙◌, arith}
 use Rattle.std.proofs.lemmas.List.{length-append, length-replicate}
-use Rattle.std.specs.List.{flat_map}
 use Rattle.aes.proofs.Sums.{length-xors}
 use Rattle.aes.specs.Cipher.{xors, sub_bytes, shift_rows, next_key, round_key, key_expansion, rounds, add_round_key, cipher, aes128}
 use Rattle.aes.specs.Cmac.{cmac_from, cmac}
 use Rattle.sha256.specs.Progress.{digest_from, tag_under}
-use Rattle.sha256.specs.Sha256.{be32, be64, padding, blocks, parsed, compressed, hashed, digest_bytes}
+use Rattle.sha256.specs.Sha256.{be64, padding, blocks, parsed, compressed, hashed, digest_bytes}
 use Rattle.sha256.specs.declared.tags.HmacKey.{HmacKey}
 
 -- SHA-256: eight words after at least one block, and four bytes to a word

@@ -48,9 +48,9 @@ impl<M: Mac> Checker for TrustedCounter<M> {
 
     ghost rule = { λ c. tag_rule (M.Mac.tags c.checker.mac) };
 
-    ghost sized = { first_of (Prim.search rules, Prim.grind (arith, Self.row.coded.inj)) };
+    ghost sized = { Prim.search rules };
 
-    ghost whole = { first_of (Prim.search rules, Prim.grind (arith, Self.row.coded.inj)) };
+    ghost whole = { Prim.search rules };
 
     fn group(&self) -> GroupSize {
         self.checker.group()
@@ -66,11 +66,11 @@ impl<M: Mac> Counter for TrustedCounter<M> {
 
     ghost values = { λ c. c.values };
 
-    ghost seated = { first_of (Prim.search rules, Prim.grind (arith, Self.row.coded.inj)) };
+    ghost seated = { Prim.search rules };
 
-    ghost three = { first_of (Prim.search rules, Prim.grind (arith, Self.row.coded.inj)) };
+    ghost three = { Prim.search rules };
 
-    ghost fitting = { first_of (Prim.search rules, Prim.grind (arith, Self.row.coded.inj)) };
+    ghost fitting = { Prim.search rules };
 
     fn seat(&self) -> u32 {
         self.seat
