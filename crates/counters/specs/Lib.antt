@@ -1,3 +1,3 @@
--- The tag rules of the two kinds.
-pub mod Rules
+-- The tag rules of the two kinds, and how long their tags are.
 pub mod Lengths
+pub mod Rules
