@@ -2,36 +2,61 @@
 ghost use Rattle.std.specs.Prelude.{◌≡◌};
 ghost use Rattle.terms.specs.Refusals.{refusal_number};
 
-use std::fmt;
+use thiserror::Error;
 
 /// Why a call stopped. A refused call changes nothing: no replica, no counter, no register and no buffer.
 /// Where several would fit, the lowest number is given.
-#[derive(Clone, Copy, Debug)]
+#[derive(Clone, Copy, PartialEq, Eq, Debug, Error)]
 pub enum Refusal {
+    #[error("a group cannot have this many seats")]
     GroupSize,
+    #[error("the group has no such seat")]
     NoSuchSeat,
+    #[error("the buffer for the message is too short")]
     OutTooShort,
+    #[error("the scratch buffer is too short for the written state")]
     ScratchTooShort,
+    #[error("the bytes are no message")]
     NoMessage,
+    #[error("the view is closed")]
     ViewClosed,
+    #[error("the message is of another view")]
     WrongView,
+    #[error("the view is open")]
     ViewOpen,
+    #[error("this is for the other role, leader or follower")]
     WrongRole,
+    #[error("the message is the replica's own")]
     OwnMessage,
+    #[error("a sender has no seat in the group")]
     NoSuchSender,
+    #[error("the order number does not fit")]
     WrongOrder,
+    #[error("the order number lies beyond the window")]
     BeyondWindow,
+    #[error("the numbers are used up")]
     NumbersExhausted,
+    #[error("a tag does not match")]
     BadTag,
+    #[error("such a message is held already")]
     AlreadyHeld,
+    #[error("the vote is for another request")]
     OtherRequest,
+    #[error("a VIEW-CHANGE is not complete")]
     IncompleteViewChange,
+    #[error("a low mark lies above the replica's own")]
     LowAhead,
+    #[error("a VIEW-CHANGE leaves out what was accepted")]
     HistoryMissing,
+    #[error("the NEW-VIEW does not follow from a quorum")]
     UnfoundedNewView,
+    #[error("there is nothing to do, or no quorum for it")]
     NothingToDo,
+    #[error("the counter would refuse the certificate")]
     CounterRefuses,
+    #[error("there is no counter of this number")]
     NoSuchCounter,
+    #[error("the counter does not allow this value")]
     ValueNotAllowed,
 }
 
@@ -67,42 +92,5 @@ impl Refusal {
             Refusal::NoSuchCounter => 24,
             Refusal::ValueNotAllowed => 25,
         }
-    }
-
-    // The refusal in words, for a person who reads a record.
-    fn sentence(self) -> &'static str {
-        match self {
-            Refusal::GroupSize => "a group cannot have this many seats",
-            Refusal::NoSuchSeat => "the group has no such seat",
-            Refusal::OutTooShort => "the buffer for the message is too short",
-            Refusal::ScratchTooShort => "the scratch buffer is too short for the written state",
-            Refusal::NoMessage => "the bytes are no message",
-            Refusal::ViewClosed => "the view is closed",
-            Refusal::WrongView => "the message is of another view",
-            Refusal::ViewOpen => "the view is open",
-            Refusal::WrongRole => "this is for the other role, leader or follower",
-            Refusal::OwnMessage => "the message is the replica's own",
-            Refusal::NoSuchSender => "a sender has no seat in the group",
-            Refusal::WrongOrder => "the order number does not fit",
-            Refusal::BeyondWindow => "the order number lies beyond the window",
-            Refusal::NumbersExhausted => "the numbers are used up",
-            Refusal::BadTag => "a tag does not match",
-            Refusal::AlreadyHeld => "such a message is held already",
-            Refusal::OtherRequest => "the vote is for another request",
-            Refusal::IncompleteViewChange => "a VIEW-CHANGE is not complete",
-            Refusal::LowAhead => "a low mark lies above the replica's own",
-            Refusal::HistoryMissing => "a VIEW-CHANGE leaves out what was accepted",
-            Refusal::UnfoundedNewView => "the NEW-VIEW does not follow from a quorum",
-            Refusal::NothingToDo => "there is nothing to do, or no quorum for it",
-            Refusal::CounterRefuses => "the counter would refuse the certificate",
-            Refusal::NoSuchCounter => "there is no counter of this number",
-            Refusal::ValueNotAllowed => "the counter does not allow this value",
-        }
-    }
-}
-
-impl fmt::Display for Refusal {
-    fn fmt<W: fmt::Write>(&self, f: &mut fmt::Formatter<W>) -> fmt::Result {
-        f.write_str(self.sentence())
     }
 }
