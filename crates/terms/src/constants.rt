@@ -44,7 +44,7 @@ pub const LONGEST_NEW_VIEW: usize = SHORTEST_NEW_VIEW
 pub const OUT_BYTES: usize = LONGEST_NEW_VIEW;
 
 /// The limits as one value.
-#[derive(Clone, Copy)]
+#[derive(Clone, Copy, PartialEq, Eq, Debug)]
 pub struct Limits {
     pub smallest_group: u32,
     pub largest_group: u32,

@@ -14,20 +14,18 @@ pub struct Order(pub u32);
 
 impl fmt::Display for View {
     fn fmt<W: fmt::Write>(&self, f: &mut fmt::Formatter<W>) -> fmt::Result {
-        let number = self.0;
-        write!(f, "{number}")
+        self.0.fmt(f)
     }
 }
 
 impl fmt::Display for Order {
     fn fmt<W: fmt::Write>(&self, f: &mut fmt::Formatter<W>) -> fmt::Result {
-        let number = self.0;
-        write!(f, "{number}")
+        self.0.fmt(f)
     }
 }
 
 // A view has this many order numbers, 0 among them.
-const ORDERS_TO_A_VIEW: u64 = 4_294_967_296;
+const ORDERS_TO_A_VIEW: u64 = 1 << 32;
 
 /// The pair [view|order]: the view in the upper 32 bits, the order in the lower. Both can be had back.
 pub fn pair(view: View, order: Order) -> u64

@@ -9,55 +9,55 @@ use thiserror::Error;
 #[derive(Clone, Copy, PartialEq, Eq, Debug, Error)]
 pub enum Refusal {
     #[error("a group cannot have this many seats")]
-    GroupSize,
+    GroupSize = 1,
     #[error("the group has no such seat")]
-    NoSuchSeat,
+    NoSuchSeat = 2,
     #[error("the buffer for the message is too short")]
-    OutTooShort,
+    OutTooShort = 3,
     #[error("the scratch buffer is too short for the written state")]
-    ScratchTooShort,
+    ScratchTooShort = 4,
     #[error("the bytes are no message")]
-    NoMessage,
+    NoMessage = 5,
     #[error("the view is closed")]
-    ViewClosed,
+    ViewClosed = 6,
     #[error("the message is of another view")]
-    WrongView,
+    WrongView = 7,
     #[error("the view is open")]
-    ViewOpen,
+    ViewOpen = 8,
     #[error("this is for the other role, leader or follower")]
-    WrongRole,
+    WrongRole = 9,
     #[error("the message is the replica's own")]
-    OwnMessage,
+    OwnMessage = 10,
     #[error("a sender has no seat in the group")]
-    NoSuchSender,
+    NoSuchSender = 11,
     #[error("the order number does not fit")]
-    WrongOrder,
+    WrongOrder = 12,
     #[error("the order number lies beyond the window")]
-    BeyondWindow,
+    BeyondWindow = 13,
     #[error("the numbers are used up")]
-    NumbersExhausted,
+    NumbersExhausted = 14,
     #[error("a tag does not match")]
-    BadTag,
+    BadTag = 15,
     #[error("such a message is held already")]
-    AlreadyHeld,
+    AlreadyHeld = 16,
     #[error("the vote is for another request")]
-    OtherRequest,
+    OtherRequest = 17,
     #[error("a VIEW-CHANGE is not complete")]
-    IncompleteViewChange,
+    IncompleteViewChange = 18,
     #[error("a low mark lies above the replica's own")]
-    LowAhead,
+    LowAhead = 19,
     #[error("a VIEW-CHANGE leaves out what was accepted")]
-    HistoryMissing,
+    HistoryMissing = 20,
     #[error("the NEW-VIEW does not follow from a quorum")]
-    UnfoundedNewView,
+    UnfoundedNewView = 21,
     #[error("there is nothing to do, or no quorum for it")]
-    NothingToDo,
+    NothingToDo = 22,
     #[error("the counter would refuse the certificate")]
-    CounterRefuses,
+    CounterRefuses = 23,
     #[error("there is no counter of this number")]
-    NoSuchCounter,
+    NoSuchCounter = 24,
     #[error("the counter does not allow this value")]
-    ValueNotAllowed,
+    ValueNotAllowed = 25,
 }
 
 impl Refusal {
@@ -65,32 +65,6 @@ impl Refusal {
     pub fn number(self) -> u32
         ensures { result ≡ refusal_number self }
     {
-        match self {
-            Refusal::GroupSize => 1,
-            Refusal::NoSuchSeat => 2,
-            Refusal::OutTooShort => 3,
-            Refusal::ScratchTooShort => 4,
-            Refusal::NoMessage => 5,
-            Refusal::ViewClosed => 6,
-            Refusal::WrongView => 7,
-            Refusal::ViewOpen => 8,
-            Refusal::WrongRole => 9,
-            Refusal::OwnMessage => 10,
-            Refusal::NoSuchSender => 11,
-            Refusal::WrongOrder => 12,
-            Refusal::BeyondWindow => 13,
-            Refusal::NumbersExhausted => 14,
-            Refusal::BadTag => 15,
-            Refusal::AlreadyHeld => 16,
-            Refusal::OtherRequest => 17,
-            Refusal::IncompleteViewChange => 18,
-            Refusal::LowAhead => 19,
-            Refusal::HistoryMissing => 20,
-            Refusal::UnfoundedNewView => 21,
-            Refusal::NothingToDo => 22,
-            Refusal::CounterRefuses => 23,
-            Refusal::NoSuchCounter => 24,
-            Refusal::ValueNotAllowed => 25,
-        }
+        self as u32
     }
 }

@@ -21,7 +21,7 @@ impl GroupSize {
         ensures figures { SizesInFigures }
         ensures value { elim result [ Ok g ↦ (group_sized seats ≡ true) × (g.seats ≡ seats) | Err e ↦ (group_sized seats ≡ false) × (e ≡ Refusal.GroupSize) ] }
     {
-        if seats < SMALLEST_GROUP || seats > LARGEST_GROUP {
+        if !(SMALLEST_GROUP..=LARGEST_GROUP).contains(&seats) {
             return Err(Refusal::GroupSize);
         }
         Ok(GroupSize { seats })
