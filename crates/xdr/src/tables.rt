@@ -1,10 +1,7 @@
 // Tables: values that all have one width, written one behind the other.
 ghost use Rattle.std.specs.Prelude.{◌≡◌, ℕ, ◌+◌, ◌*◌, ◌≤◌, List, length};
 ghost use Rattle.std.specs.List.{flat_map};
-ghost use Rattle.xdr.specs.Layout.{int, pasted};
-ghost use Rattle.std.proofs.Common.{rules};
-
-use super::writing::put_int;
+ghost use Rattle.xdr.specs.Layout.{pasted};
 
 /// A value that is laid out in a fixed number of bytes.
 pub trait Row {
@@ -19,18 +16,6 @@ pub trait Row {
         ensures after { out.new ≡ pasted out.old at (layout self.now) };
 
     ghost wide: { (row : Self) → length (layout row) ≡ width };
-}
-
-impl Row for u32 {
-    ghost width = { 4 };
-
-    ghost layout = { int };
-
-    ghost wide = { Prim.search rules };
-
-    fn put_row(&self, out: &mut [u8], at: usize) -> usize {
-        put_int(out, at, *self)
-    }
 }
 
 /// Writes rows one behind the other from a place on, and answers the place behind the last.

@@ -1,7 +1,7 @@
 -- Each row is written behind the ones before it, within the buffer.
 use Rattle.std.proofs.Common.{◌≡◌, ◌*◌, [], ◌++◌, length, take, sym, ap, ◌∙◌, arith}
 use Rattle.std.specs.List.{flat_map}
-use Rattle.std.proofs.lemmas.List.{take_more, flat_map_more, take_all, length-take-le}
+use Rattle.std.proofs.lemmas.List.{take_more, flat_map_more, length-take-le}
 use Rattle.xdr.specs.Layout.{pasted}
 use Rattle.xdr.proofs.Pasting.{pasted_none, pasted_then}
 use Rattle.xdr.proofs.Listing.{length-joined}
@@ -12,9 +12,7 @@ pub loop-row-init : goal.loop-row-init
 loop-row-init g c = (omega arith, sym (pasted_none c.args.out.now c.args.at))
 
 pub put_row-end-requires : goal.put_row-end-requires
-put_row-end-requires g c =
-    let w = width_within g.T.Row.width c.loop-row.row-index (length c.args.rows.now) c.loop-row-test.true in
-    omega (arith, c.requires, c.loop-row.auto.out)
+put_row-end-requires g c = grind (arith, width_within, c.requires)
 
 pub loop-row-preserved : goal.loop-row-preserved
 loop-row-preserved g c =
@@ -36,11 +34,3 @@ loop-row-preserved g c =
     let after : c.put_row-end.new.out ≡ pasted c.args.out.now c.args.at (flat_map layout (take i rows) ++ layout row) =
     pasted_then c.args.out.now c.args.at (flat_map layout (take i rows)) (layout row) c.loop-row.invariant.1 c.put_row-end.ensures.after (omega arith) (omega (arith, c.requires)) in
     (omega arith, cc)
-
-pub returns : goal.returns
-returns g c =
-    let all = take_all c.loop-row.row-index c.args.rows.now c.loop-row-test.false in
-    let last : c.loop-row.row-index ≡ length c.args.rows.now = omega arith in
-    let place = c.loop-row.invariant.0 in
-    let after = c.loop-row.invariant.1 in
-    record { end = cc; after = cc }
