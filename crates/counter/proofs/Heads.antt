@@ -8,16 +8,15 @@ use Rattle.xdr.specs.Layout.{int, hyper, pasted}
 use Rattle.counter.specs.Statements.{Stated, head_bytes, StatementsApart}
 
 -- three ints and two hypers, written one behind the other, fill a buffer of their length
-pub head_written : (s : Stated) (buffer ints news olds : List ℕ) (at behind : ℕ) → length buffer ≡ 28
+pub head_written : (s : Stated) (buffer ints both : List ℕ) (at : ℕ) → length buffer ≡ 28
     → ints ≡ pasted buffer 0 (flat_map int (s.kind ∷ s.seat ∷ s.number ∷ [])) → at ≡ 12
-    → news ≡ pasted ints at (hyper s.new) → behind ≡ at + 8
-    → olds ≡ pasted news behind (hyper s.old)
-    → olds ≡ head_bytes s
+    → both ≡ pasted ints at (flat_map hyper (s.new ∷ s.old ∷ []))
+    → both ≡ head_bytes s
 unfolding head_bytes
-head_written s buffer ints news olds at behind long first place second next third =
-    let two = pasted_then buffer 0 (flat_map int (s.kind ∷ s.seat ∷ s.number ∷ [])) (hyper s.new) first second place (omega arith) in
-    let three = pasted_then buffer 0 (flat_map int (s.kind ∷ s.seat ∷ s.number ∷ []) ++ hyper s.new) (hyper s.old) two third (omega arith) (omega arith) in
-    three ∙ pasted_front buffer _ ∙ rw (drop_all 28 buffer (omega arith)) (append-nil _)
+head_written s buffer ints both at long first place second =
+    pasted_then buffer 0 (flat_map int (s.kind ∷ s.seat ∷ s.number ∷ [])) (flat_map hyper (s.new ∷ s.old ∷ [])) first second place (omega arith)
+    ∙ pasted_front buffer _
+    ∙ rw (drop_all 28 buffer (omega arith)) (append-nil _)
 
 -- the two statements say the same, field by field
 pub statements_apart : StatementsApart

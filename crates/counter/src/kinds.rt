@@ -4,12 +4,12 @@ ghost use Rattle.counter.specs.Certificates.{allows, old_tagged};
 ghost use Rattle.counter.specs.Kinds.{kind_number};
 
 /// What a certificate says of the value that the counter had before.
-#[derive(Clone, Copy, Debug)]
+#[derive(Clone, Copy, PartialEq, Eq, Debug)]
 pub enum Kind {
     /// The counter went on from the old value, which is tagged too. It may stay where it is.
-    Continuing,
+    Continuing = 1,
     /// The counter rose to the new value, which stands for itself: no other independent certificate has it.
-    Independent,
+    Independent = 2,
 }
 
 impl Kind {
@@ -17,10 +17,7 @@ impl Kind {
     pub fn number(self) -> u32
         ensures { result ≡ kind_number self }
     {
-        match self {
-            Kind::Continuing => 1,
-            Kind::Independent => 2,
-        }
+        self as u32
     }
 
     /// Whether a counter at the present value may be set to a new one.

@@ -2,14 +2,14 @@
 ghost use Rattle.std.specs.Prelude.{◌≡◌};
 ghost use Rattle.counter.specs.Statements.{stated, head_bytes, StatementsApart};
 
-use xdr::{put_hyper, put_rows};
+use xdr::put_rows;
 
 /// The bytes of a statement before its message: three unsigned ints and two unsigned hypers.
 pub const HEAD_BYTES: usize = 28;
 
 /// A statement: that the counter of this number, at this seat, went from an old value to a new one for a message.
 /// Any numbers may stand in it; what a counter certifies is another matter.
-#[derive(Clone, Copy)]
+#[derive(Clone, Copy, Debug)]
 pub struct Statement<'a> {
     /// `Kind::number` of the certificate.
     pub kind: u32,
@@ -29,8 +29,7 @@ impl Statement<'_> {
     {
         let mut head = [0; HEAD_BYTES];
         let ints = put_rows(&mut head, 0, &[self.kind, self.seat, self.number]);
-        let hypers = put_hyper(&mut head, ints, self.new);
-        let _ = put_hyper(&mut head, hypers, self.old);
+        let _ = put_rows(&mut head, ints, &[self.new, self.old]);
         head
     }
 }

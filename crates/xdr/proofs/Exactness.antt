@@ -1,5 +1,5 @@
 -- What follows from exactness for any type of value, and exactness of what is put together from exact parts.
-use Rattle.std.proofs.Common.{◌≡◌, ℕ, ◌<◌, Bool, true, false, cond, List, [], ◌∷◌, ◌++◌, get_or, Some, None, Option, sym, refl, ap, ◌∙◌, subst, append_assoc, arith}
+use Rattle.std.proofs.Common.{◌≡◌, ℕ, ◌<◌, List, [], ◌∷◌, ◌++◌, get_or, Some, None, Option, sym, refl, ap, ◌∙◌, subst, append_assoc, arith}
 use Rattle.std.proofs.ByRecursion.{All-from_get_or}
 use Rattle.xdr.specs.Laws.{Bytes, Exact}
 use Rattle.xdr.specs.Reading.{and_then}
@@ -14,28 +14,21 @@ bytes_behind (b ∷ front) rest h = bytes_behind front rest h.1
 
 -- one answer has one value and one rest
 pub answer_parts : {X : Type 0} (x y : X) (rest more : List ℕ) → ◌≡◌ {A = Option (X × List ℕ)} (Some (x, rest)) (Some (y, more)) → (x ≡ y) × (rest ≡ more)
-answer_parts {X} x y rest more e =
-    let same : ◌≡◌ {A = X × List ℕ} (x, rest) (y, more) = cc in
-    (ap (λ (p : X × List ℕ). p.0) same, ap (λ (p : X × List ℕ). p.1) same)
+answer_parts {X} x y rest more e = grind arith
 
 -- no answer is no value
 pub no_answer : {X : Type 0} (x : X) → ◌≡◌ {A = Option X} None (Some x) → ⊥
-no_answer x e = let z : ◌≡◌ {A = ℕ} 0 1 = cc in omega arith
+no_answer x e = grind arith
 
 -- where reading on gave something, there was something to read on from
 pub then_parts : {X Y : Type 0} (o : Option (X × List ℕ)) (next : X → List ℕ → Option Y) (y : Y) → and_then o next ≡ Some y → (p : X × List ℕ) × (o ≡ Some p) × (next p.0 p.1 ≡ Some y)
 then_parts None next y e = absurd (no_answer y e)
 then_parts (Some p) next y e = (p, refl, e)
 
--- where a test let a value through, it held
-pub test_parts : {Y : Type 0} (b : Bool) (x y : Y) → cond b (Some x) None ≡ Some y → (b ≡ true) × (◌≡◌ {A = Option Y} (Some x) (Some y))
-test_parts true x y e = (refl, e)
-test_parts false x y e = absurd (no_answer y e)
-
 module _ {X : Type 0} {fits : X → Type 0} {write : X → List ℕ} {read : List ℕ → Option (X × List ℕ)} (exact : Exact fits write read) where
   -- two writings that begin one list are the same
   pub same_writing : (x y : X) (rest more : List ℕ) → fits x → fits y → write x ++ rest ≡ write y ++ more → (x ≡ y) × (rest ≡ more)
-  same_writing x y rest more f g e = answer_parts x y rest more (sym (exact.back x rest f) ∙ ap read e ∙ exact.back y more g)
+  same_writing x y rest more f g e = grind arith
 
   -- the same of two writings that are whole lists
   pub same_written : (x y : X) → fits x → fits y → write x ≡ write y → x ≡ y

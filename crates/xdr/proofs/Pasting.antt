@@ -1,7 +1,8 @@
 -- One write after another in a buffer.
-use Rattle.std.proofs.Common.{◌≡◌, ℕ, ◌+◌, ◌-◌, ◌≤◌, List, [], ◌++◌, length, drop, sym, ap, ◌∙◌, add-zero, zero-add, arith, rules}
+use Rattle.std.proofs.lemmas.Grind.{common_steps}
+use Rattle.std.proofs.Common.{◌≡◌, ℕ, ◌+◌, ◌-◌, ◌≤◌, List, [], ◌++◌, length, drop, sym, ap, ◌∙◌, zero-add, arith, rules}
 use borrow.Rule.Slice.PartMut.{put_mid}
-use Rattle.std.proofs.lemmas.List.{take-append-drop, places, same_lists}
+use Rattle.std.proofs.lemmas.List.{places, same_lists}
 use Rattle.xdr.specs.Layout.{pasted}
 
 -- at the front
@@ -11,7 +12,7 @@ pasted_front buffer bytes = simp zero-add
 
 pub pasted_none : (buffer : List ℕ) (at : ℕ) → pasted buffer at [] ≡ buffer
 unfolding pasted
-pasted_none buffer at = simp (add-zero, take-append-drop)
+pasted_none buffer at = grind (arith, common_steps)
 
 pub length-pasted : (buffer : List ℕ) (at : ℕ) (bytes : List ℕ) → at + length bytes ≤ length buffer → length (pasted buffer at bytes) ≡ length buffer
 unfolding pasted
@@ -28,4 +29,4 @@ pasted_then buffer at first second {middle} {after} {n} e f place fits = f ∙ a
 -- a write to the rest of a buffer, `&mut out[n..]`, and then one in front of it
 pub pasted_behind : (buffer : List ℕ) (n k : ℕ) (front back : List ℕ) → length front ≡ n → n ≤ length buffer → k ≡ length buffer - n → n + length back ≤ length buffer → pasted (put_mid n k buffer (pasted (drop n buffer) 0 back)) 0 front ≡ pasted buffer 0 (front ++ back)
 unfolding pasted
-pasted_behind buffer n k front back e l f fits = same_lists _ _ (search (rules, places)) (λ j d i. grind (arith, places))
+pasted_behind buffer n k front back e l f fits = grind (arith, common_steps)

@@ -11,9 +11,6 @@ use Rattle.xdr.proofs.tables.put_rows.Goals as goal
 pub loop-row-init : goal.loop-row-init
 loop-row-init g c = (omega arith, sym (pasted_none c.args.out.now c.args.at))
 
-pub put_row-end-requires : goal.put_row-end-requires
-put_row-end-requires g c = grind (arith, width_within, c.requires)
-
 pub loop-row-preserved : goal.loop-row-preserved
 loop-row-preserved g c =
     let i = c.loop-row.row-index in

@@ -7,6 +7,6 @@ use Rattle.counter.proofs.statements.Statement.head.Goals as goal
 pub returns : goal.returns
 returns c =
     record {
-      value = head_written (stated c.args.self) _ _ _ _ _ _ refl c.put_rows-ints.ensures.after c.put_rows-ints.ensures.end c.put_hyper-hypers.ensures.after c.put_hyper-hypers.ensures.end c.put_hyper.ensures.after;
+      value = head_written (stated c.args.self) _ _ _ _ refl c.put_rows-ints.ensures.after c.put_rows-ints.ensures.end c.put_rows.ensures.after;
       apart = statements_apart;
     }
