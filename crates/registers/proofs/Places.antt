@@ -1,8 +1,10 @@
 -- A glyph's place among the rows, and what setting a row there leaves.
-use Rattle.std.proofs.Common.{◌≡◌, ℕ, zero, suc, ◌+◌, ◌<◌, ◌≤◌, Bool, true, false, cond, eqb, ltb, List, [], ◌∷◌, length, get_or, set, is_some, Some, None, sym, refl, ap, ◌∙◌, subst, ⊎_elim, arith}
+use Rattle.std.proofs.Common.{◌≡◌, ℕ, zero, suc, ◌+◌, ◌<◌, ◌≤◌, true, cond, eqb, ltb, List, [], ◌∷◌, length, get_or, set, is_some, Some, None, Result, Ok, Err, MatchResult, sym, refl, ap, ◌∙◌, subst, ⊎_elim, arith}
 use Rattle.std.specs.List.{insert}
-use Rattle.std.proofs.lemmas.List.{get_or_read}
-use Rattle.std.proofs.lemmas.Bool.{false≢true, and_parts, and_from, ltb-true, lt-ltb, cond-true, cond-false, cases_order, ne_eqb, eq-eqb, le-ltb}
+use Rattle.std.specs.List.Sorted.{IsSearchInRange, IsBinarySearchResult, IsNonDecreasingBy}
+use Rattle.std.specs.Ordering.{nat_cmp, ordering_index}
+use Rattle.std.proofs.lemmas.Cmp.{ranked}
+use Rattle.std.proofs.lemmas.Bool.{false≢true, and_parts, and_from, ltb-true, lt-ltb, cases_order}
 use Rattle.std.proofs.lemmas.Bool.Decides.{nat_tests}
 use Rattle.registers.specs.declared.glyph_rows.GlyphRow.{GlyphRow}
 use Rattle.registers.specs.Rows.{new_row, row_of, placed, all_above, ascending, Found, Missing}
@@ -20,25 +22,25 @@ place_within (row ∷ rows) glyph = let rest = place_within rows glyph in grind 
 
 module _ (row : GlyphRow) (rows : List GlyphRow) where
   place_lower : (glyph : ℕ) → row.glyph < glyph → place_of (row ∷ rows) glyph ≡ suc (place_of rows glyph)
-  place_lower glyph less = cond-true _ _ _ (lt-ltb _ _ less)
+  place_lower glyph less = grind arith
 
   place_front : (glyph : ℕ) → glyph ≤ row.glyph → place_of (row ∷ rows) glyph ≡ 0
-  place_front glyph le = cond-false _ _ _ (le-ltb _ _ le)
+  place_front glyph le = grind arith
 
   row_other : (glyph : ℕ) → (row.glyph ≡ glyph → ⊥) → row_of (row ∷ rows) glyph ≡ row_of rows glyph
-  row_other glyph other = cond-false _ _ _ (ne_eqb _ _ other)
+  row_other glyph other = grind arith
 
   row_first : (glyph : ℕ) → row.glyph ≡ glyph → row_of (row ∷ rows) glyph ≡ Some row
-  row_first glyph same = cond-true _ _ _ (eq-eqb _ _ same)
+  row_first glyph same = grind arith
 
   placed_lower : (new : GlyphRow) → row.glyph < new.glyph → placed (row ∷ rows) new ≡ row ∷ placed rows new
-  placed_lower new less = cond-true _ _ _ (lt-ltb _ _ less)
+  placed_lower new less = grind arith
 
   placed_same : (new : GlyphRow) → row.glyph ≡ new.glyph → placed (row ∷ rows) new ≡ new ∷ rows
-  placed_same new same = cond-false _ _ _ (le-ltb row.glyph new.glyph (omega arith)) ∙ cond-true _ _ _ (eq-eqb _ _ same)
+  placed_same new same = grind arith
 
   placed_higher : (new : GlyphRow) → new.glyph < row.glyph → placed (row ∷ rows) new ≡ new ∷ row ∷ rows
-  placed_higher new less = cond-false _ _ _ (le-ltb row.glyph new.glyph (omega arith)) ∙ cond-false _ _ _ (ne_eqb row.glyph new.glyph (λ e. omega arith))
+  placed_higher new less = grind arith
 
 -- the place by what stands before it and at it
 pub place_is : (rows : List GlyphRow) (glyph place : ℕ) → place ≤ length rows → ((k : ℕ) → k < place → (get_or rows k (new_row 0)).glyph < glyph) → (place < length rows → glyph ≤ (get_or rows place (new_row 0)).glyph) → place ≡ place_of rows glyph
@@ -130,14 +132,14 @@ above_below (row ∷ rows) low lower above le =
     and_from _ _ (lt-ltb lower row.glyph (omega arith)) (above_below rows low lower both.1 le)
 
 -- rows that ascend still do
-pub ascending-placed : (rows : List GlyphRow) (new : GlyphRow) → ascending rows ≡ true → ascending (placed rows new) ≡ true
-ascending-placed [] new ordered = refl
-ascending-placed (row ∷ rows) new ordered =
+pub placed_ascends : (rows : List GlyphRow) (new : GlyphRow) → ascending rows ≡ true → ascending (placed rows new) ≡ true
+placed_ascends [] new ordered = refl
+placed_ascends (row ∷ rows) new ordered =
     let both = and_parts (all_above row.glyph rows) (ascending rows) ordered in
     ⊎_elim
     (λ here. rw (placed_same row rows new here) (and_from _ _ (above_below rows row.glyph new.glyph both.0 (omega arith)) both.1))
     (⊎_elim
-    (λ lower. rw (placed_lower row rows new lower) (and_from _ _ (above_placed rows new row.glyph both.0 lower) (ascending-placed rows new both.1)))
+    (λ lower. rw (placed_lower row rows new lower) (and_from _ _ (above_placed rows new row.glyph both.0 lower) (placed_ascends rows new both.1)))
     (λ higher.
     rw (placed_higher row rows new higher)
     (and_from _ _ (and_from _ _ (lt-ltb new.glyph row.glyph higher) (above_below rows row.glyph new.glyph both.0 (omega arith))) ordered)))
@@ -169,16 +171,6 @@ length-placed_known (row ∷ rows) new ordered known =
     absurd (false≢true (rw none at known))))
     (cases_order row.glyph new.glyph)
 
--- an insertion that may fail keeps both
-
-pub ascending_either : (done : Bool) (left after rows : List GlyphRow) → left ≡ cond done after rows → ascending after ≡ true → ascending rows ≡ true → ascending left ≡ true
-ascending_either true left after rows e a b = ap ascending e ∙ a
-ascending_either false left after rows e a b = ap ascending e ∙ b
-
-pub few_either : (done : Bool) (n most : ℕ) → n < most → cond done (n + 1) n ≤ most
-few_either true n most less = omega arith
-few_either false n most less = omega arith
-
 -- ---- reading after a set
 
 pub row_after : (rows : List GlyphRow) (new : GlyphRow) → row_of (placed rows new) new.glyph ≡ Some new
@@ -203,10 +195,6 @@ row_after_other (row ∷ rows) new glyph other =
 
 -- ---- what `find` answers
 
--- the glyph of a row that was read
-pub glyph_read : (rows : List GlyphRow) (i : ℕ) (row : GlyphRow) → i < length rows → row ≡ get_or rows i row → (get_or rows i (new_row 0)).glyph ≡ row.glyph
-glyph_read rows i row within read = ap (λ (x : GlyphRow). x.glyph) (sym (get_or_read rows i row within read (new_row 0)))
-
 pub found_at : (rows : List GlyphRow) (glyph place : ℕ) → place ≡ place_of rows glyph → place < length rows → (get_or rows place (new_row 0)).glyph ≡ glyph → Found rows glyph place
 found_at rows glyph place is within same =
     let P : ℕ → Type 0 = λ n. n < length rows → (get_or rows n (new_row 0)).glyph ≡ glyph → Found rows glyph n in
@@ -226,3 +214,35 @@ missing_at rows glyph place is ordered absent =
       put = λ new named. let Q : ℕ → Type 0 = λ g. (place_of rows g < length rows → (get_or rows (place_of rows g) (new_row 0)).glyph ≡ g → ⊥) → placed rows new ≡ insert rows (place_of rows g) new in subst Q named (placed_between rows new (new_row 0)) a;
     } in
     subst P (sym is) here absent
+
+-- ---- what a binary search answers
+
+above_each : (rows : List GlyphRow) (low k : ℕ) (d : GlyphRow) → all_above low rows ≡ true → k < length rows → low < (get_or rows k d).glyph
+above_each [] low k d above within = absurd (omega arith)
+above_each (row ∷ rows) low zero d above within = ltb-true low row.glyph (and_parts (ltb low row.glyph) (all_above low rows) above).0
+above_each (row ∷ rows) low (suc k) d above within = above_each rows low k d (and_parts (ltb low row.glyph) (all_above low rows) above).1 (omega arith)
+
+-- in rows that ascend a row further back has a higher glyph
+pub ascends : (rows : List GlyphRow) (i j : ℕ) (d : GlyphRow) → ascending rows ≡ true → i < j → j < length rows → (get_or rows i d).glyph < (get_or rows j d).glyph
+ascends [] i j d ordered less within = absurd (omega arith)
+ascends (row ∷ rows) i zero d ordered less within = absurd (omega arith)
+ascends (row ∷ rows) zero (suc j) d ordered less within = above_each rows row.glyph j d (and_parts (all_above row.glyph rows) (ascending rows) ordered).0 (omega arith)
+ascends (row ∷ rows) (suc i) (suc j) d ordered less within = ascends rows i j d (and_parts (all_above row.glyph rows) (ascending rows) ordered).1 (omega arith) (omega arith)
+
+module _ (rows : List GlyphRow) (ordered : ascending rows ≡ true) (glyph : ℕ) where
+  comparisons_rise : IsNonDecreasingBy (λ row. ordering_index (nat_cmp row.glyph glyph)) rows
+  comparisons_rise i j d le within =
+      let rise : (get_or rows i d).glyph ≤ (get_or rows j d).glyph = grind (arith, ascends rows i j d ordered, λ (same : i ≡ j). ap (λ k. (get_or rows k d).glyph) same) in
+      grind (arith, nat_tests)
+
+  -- a binary search ends at the glyph's row, or at the place for it
+  pub searched : (r : Result ℕ ℕ) → IsSearchInRange r (length rows) → IsBinarySearchResult (λ row. nat_cmp row.glyph glyph) rows r → MatchResult r (Found rows glyph) (Missing rows glyph)
+  searched (Ok place) within equal =
+      let same : (get_or rows place (new_row 0)).glyph ≡ glyph = ranked _ glyph _ (sym (equal (new_row 0))) in
+      let is = place_is rows glyph place (omega arith) (λ k less. omega (arith, ascends rows k place (new_row 0) ordered less within)) (λ _. omega arith) in
+      found_at rows glyph place is within same
+  searched (Err place) within parted =
+      let parts = parted comparisons_rise in
+      let lower : (k : ℕ) → k < place → (get_or rows k (new_row 0)).glyph < glyph = λ k less. ranked _ glyph _ (sym (parts.0 k (new_row 0) (omega arith) less)) in
+      let higher : place < length rows → glyph < (get_or rows place (new_row 0)).glyph = λ less. ranked _ glyph _ (sym (parts.1 place (new_row 0) (omega arith) less)) in
+      missing_at rows glyph place (place_is rows glyph place within lower (λ less. omega (arith, higher less))) ordered (λ less e. omega (arith, higher less))

@@ -1,6 +1,6 @@
 -- The laws of the glyph register.
-use Rattle.std.proofs.Common.{◌≡◌, ℕ, ◌<◌, ◌≤◌, Bool, true, false, cond, ltb, ◌⊎◌, List, length, is_some, Some, None, Option, sym, refl, ap, ◌∙◌, inl, inr, ⊎_elim, arith}
-use Rattle.std.proofs.lemmas.Bool.{or_cases, cases_Bool, ltb-true, cases_lt, lt-ltb, lt-leb, cond-true}
+use Rattle.std.proofs.Common.{◌≡◌, ℕ, ◌≤◌, Bool, true, false, cond, ltb, ◌⊎◌, List, length, is_some, Some, None, Option, refl, ap, ◌∙◌, ⊎_elim, arith}
+use Rattle.std.proofs.lemmas.Bool.{or_cases, ltb-true}
 use Rattle.terms.specs.declared.requests.Request.{Request}
 use Rattle.service.specs.Laws.{Valueless}
 use Rattle.registers.specs.declared.glyph_rows.GlyphRow.{GlyphRow}
@@ -12,8 +12,8 @@ use Rattle.registers.specs.GlyphLaws.{Sets, Reads, GlyphLaws}
 use Rattle.registers.specs.Operations.{operation_of}
 use Rattle.registers.specs.Rows.{measure_of, with_measure, row_of, placed, ascending}
 use Rattle.registers.specs.Glyphs.{places, largest_measure, has_place, row_or_new, set_reply, read_reply, after_set, operation_reply, after_operation, glyph_reply, glyph_next}
-use Rattle.registers.proofs.Places.{row_after, row_after_other, ascending-placed, length-placed_new, length-placed_known}
-use Rattle.registers.proofs.Sets.{set_glyph, set_refused, set_done}
+use Rattle.registers.proofs.Places.{row_after, row_after_other, placed_ascends, length-placed_new, length-placed_known}
+use Rattle.registers.proofs.Sets.{set_glyph}
 
 -- ---- a set succeeds, or leaves everything
 
@@ -27,26 +27,13 @@ module _ (rows : List GlyphRow) (measure : Measure) (glyph value : ℕ) where
     reply : (set_reply rows glyph value).0 ≡ 0 → ⊥
     after : after_set rows measure glyph value ≡ rows
 
-  one_or_two : (status : ℕ) → 0 < status → {answer : ℕ × ℕ} → answer ≡ (status, 0) → answer.0 ≡ 0 → ⊥
-  one_or_two status positive e zero = let same : status ≡ 0 = sym (ap (λ (p : ℕ × ℕ). p.0) e) ∙ zero in omega arith
-
   set_cases : Stands ⊎ Fails
-  set_cases =
-      ⊎_elim
-      (λ large. inr (record {
-        reply = one_or_two 1 (omega arith) (cond-true (ltb largest_measure value) _ _ (lt-ltb largest_measure value large));
-        after = rw (lt-leb value largest_measure large) refl;
-      }))
-      (λ small. ⊎_elim
-      (λ some. let done = set_done rows measure glyph value small some in inl (record { some = some; reply = done.0; after = done.1 }))
-      (λ none. let refused = set_refused rows measure glyph value small none in inr (record { reply = one_or_two 2 (omega arith) refused.0; after = refused.1 }))
-      (cases_Bool (has_place rows glyph)))
-      (cases_lt largest_measure value)
+  set_cases = grind arith
 
   ordered_set : ascending rows ≡ true → ascending (after_set rows measure glyph value) ≡ true
   ordered_set ordered =
       ⊎_elim
-      (λ (stands : Stands). ap ascending stands.after ∙ ascending-placed rows _ ordered)
+      (λ (stands : Stands). ap ascending stands.after ∙ placed_ascends rows _ ordered)
       (λ (fails : Fails). ap ascending fails.after ∙ ordered)
       set_cases
 
@@ -63,11 +50,7 @@ module _ (rows : List GlyphRow) (measure : Measure) (glyph value : ℕ) where
       set_cases
 
   quiet_set : ((set_reply rows glyph value).0 ≡ 0 → ⊥) → after_set rows measure glyph value ≡ rows
-  quiet_set failed =
-      ⊎_elim
-      (λ (stands : Stands). absurd (failed (ap (λ (p : ℕ × ℕ). p.0) stands.reply)))
-      (λ (fails : Fails). fails.after)
-      set_cases
+  quiet_set failed = grind arith
 
   -- what a set that succeeded leaves at its glyph
   row_set : (set_reply rows glyph value).0 ≡ 0 → row_of (after_set rows measure glyph value) glyph ≡ Some (with_measure measure value (row_or_new rows glyph))

@@ -1,10 +1,11 @@
 -- A set of one number: the row that it makes, its answer and what it leaves.
-use Rattle.std.proofs.Common.{◌≡◌, ℕ, ◌≤◌, true, false, List, [], ◌∷◌, refl, ◌∙◌, ⊎_elim}
-use Rattle.std.proofs.lemmas.Bool.{cases_eq, eq-eqb, ne_eqb, le-leb, le-ltb}
+use Rattle.std.proofs.Common.{arith}
+use Rattle.std.proofs.Common.{◌≡◌, ℕ, ◌≤◌, false, List, [], ◌∷◌, refl, ◌∙◌, ⊎_elim}
+use Rattle.std.proofs.lemmas.Bool.{cases_eq, eq-eqb, ne_eqb}
 use Rattle.registers.specs.declared.glyph_rows.GlyphRow.{GlyphRow}
 use Rattle.registers.specs.declared.operations.Measure.{Measure}
 use Rattle.registers.specs.declared.operations.Measure.TheVariants.{Advance, Bearing}
-use Rattle.registers.specs.Rows.{with_measure, placed}
+use Rattle.registers.specs.Rows.{with_measure}
 use Rattle.registers.specs.Glyphs.{largest_measure, has_place, row_or_new, set_reply, after_set}
 
 measure_keeps_glyph : (measure : Measure) (value : ℕ) (row : GlyphRow) → (with_measure measure value row).glyph ≡ row.glyph
@@ -25,7 +26,4 @@ set_glyph rows measure glyph value = measure_keeps_glyph measure value (row_or_n
 
 module _ (rows : List GlyphRow) (measure : Measure) (glyph value : ℕ) (small : value ≤ largest_measure) where
   pub set_refused : has_place rows glyph ≡ false → (set_reply rows glyph value ≡ (2, 0)) × (after_set rows measure glyph value ≡ rows)
-  set_refused none = (rw (le-ltb largest_measure value small, none) refl, rw (le-leb value largest_measure small, none) refl)
-
-  pub set_done : has_place rows glyph ≡ true → (set_reply rows glyph value ≡ (0, value)) × (after_set rows measure glyph value ≡ placed rows (with_measure measure value (row_or_new rows glyph)))
-  set_done some = (rw (le-ltb largest_measure value small, some) refl, rw (le-leb value largest_measure small, some) refl)
+  set_refused none = grind arith

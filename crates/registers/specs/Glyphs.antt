@@ -1,8 +1,10 @@
 -- The glyph register: what a request answers and leaves.
-use Rattle.std.specs.Prelude.{ℕ, Bool, cond, ◌&&◌, ◌||◌, List, length, is_some, Some, None, Option, nat_le, nat_lt}
+use Rattle.std.specs.Prelude.{ℕ, Bool, true, false, cond, Ok, Err, Result, ◌&&◌, ◌||◌, List, length, is_some, Some, None, Option, nat_le, nat_lt}
 use Rattle.std.specs.Option.{unwrap_or}
 use Rattle.terms.specs.declared.requests.Request.{Request}
 use Rattle.xdr.specs.Layout.{counted}
+use Rattle.service.specs.declared.failures.Failure.{Failure}
+use Rattle.service.specs.declared.failures.Failure.TheVariants.{NotAvailable}
 use Rattle.registers.specs.declared.glyph_rows.GlyphRow.{GlyphRow}
 use Rattle.registers.specs.declared.operations.Measure.{Measure}
 use Rattle.registers.specs.declared.operations.Operation.{Operation}
@@ -21,6 +23,11 @@ largest_measure = 65535
 -- a glyph can be set if it has a row or finds a free place
 abbrev pub has_place : List GlyphRow → ℕ → Bool
 has_place rows glyph = is_some (row_of rows glyph) || nat_lt (length rows) places
+
+-- what becomes of a row that is put where its glyph belongs: without a place it is not available
+abbrev pub put_outcome : Bool → Result Unit Failure
+put_outcome true = Ok tt
+put_outcome false = Err NotAvailable
 
 -- a glyph's row, or a new one
 abbrev pub row_or_new : List GlyphRow → ℕ → GlyphRow

@@ -1,5 +1,8 @@
 -- What a request's code asks of the glyph register.
-use Rattle.std.specs.Prelude.{ℕ, cond, Some, None, Option, ◌==◌}
+use Rattle.std.specs.Prelude.{ℕ, cond, Some, None, Option, Result, ◌==◌}
+use Rattle.std.specs.Option.{ok_or}
+use Rattle.service.specs.declared.failures.Failure.{Failure}
+use Rattle.service.specs.declared.failures.Failure.TheVariants.{NotTaken}
 use Rattle.registers.specs.declared.operations.Measure.TheVariants.{Advance, Bearing}
 use Rattle.registers.specs.declared.operations.Operation.{Operation}
 use Rattle.registers.specs.declared.operations.Operation.TheVariants.{Set, Read}
@@ -12,3 +15,7 @@ operation_of code =
     (cond (code == 3) (Some (Read Advance))
     (cond (code == 4) (Some (Read Bearing))
     None)))
+
+-- another code is not taken
+abbrev pub operation_or_failure : ℕ → Result Operation Failure
+operation_or_failure code = ok_or (operation_of code) NotTaken

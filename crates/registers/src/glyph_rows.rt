@@ -43,21 +43,14 @@ impl GlyphRow {
     pub fn with(self, measure: Measure, value: u32) -> GlyphRow
         ensures { result ≡ with_measure measure value self }
     {
-        let GlyphRow {
-            glyph,
-            advance,
-            bearing,
-        } = self;
         match measure {
             Measure::Advance => GlyphRow {
-                glyph,
                 advance: value,
-                bearing,
+                ..self
             },
             Measure::Bearing => GlyphRow {
-                glyph,
-                advance,
                 bearing: value,
+                ..self
             },
         }
     }

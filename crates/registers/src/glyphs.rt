@@ -1,16 +1,18 @@
 // The glyph register: an advance and a left bearing for each of up to 64 glyphs, ascending by glyph.
-ghost use Rattle.std.specs.Prelude.{◌≡◌, ℕ, ◌<◌, ◌≤◌, true, List, [], IfOk, if◌then◌else◌, vec_len, vec_capacity, MatchResult, slice_index_or};
+ghost use Rattle.std.specs.Prelude.{◌≡◌, ◌≤◌, true, List, [], length, is_ok, IfOk, if◌then◌else◌, vec_len, vec_capacity, MatchResult};
 ghost use Rattle.registers.specs.declared.glyph_rows.GlyphRow.{GlyphRow};
+ghost use Rattle.service.specs.Failures.{outcome_reply};
 ghost use Rattle.registers.specs.GlyphLaws.{GlyphLaws};
-ghost use Rattle.registers.specs.Glyphs.{places, has_place, set_reply, read_reply, after_set, glyph_reply, glyph_next, glyphs_written};
-ghost use Rattle.registers.specs.Rows.{new_row, ascending, row_of, placed, Found, Missing};
+ghost use Rattle.registers.specs.Glyphs.{places, has_place, put_outcome, set_reply, read_reply, after_set, glyph_reply, glyph_next, glyphs_written};
+ghost use Rattle.registers.specs.Rows.{ascending, row_of, placed, Found, Missing};
 
 use super::glyph_rows::{GlyphRow, ROW_BYTES};
-use super::operations::{Measure, Operation, read_code};
-use service::{NOT_AVAILABLE, NOT_TAKEN, Service};
+use super::operations::{Measure, Operation};
+use service::{Failure, Service, reply_of};
 use std::alloc::{AllocError, Global};
+use std::marker::Model;
 use terms::Request;
-use xdr::{put_int, put_rows};
+use xdr::{Row, put_rows};
 
 /// The register has room for this many glyphs.
 pub const PLACES: usize = 64;
@@ -25,101 +27,99 @@ const LARGEST_MEASURE: u32 = 65_535;
 #[derive(Drop)]
 pub struct GlyphRegister {
     rows: Vec<GlyphRow>,
-    ghost ordered: { ascending rows.items ≡ true },
-    ghost few: { vec_len rows ≤ places },
-    ghost room: { places ≤ vec_capacity rows },
+}
+
+/// A register stands for its rows.
+impl Model for GlyphRegister {
+    ghost Value = { List GlyphRow };
+
+    ghost view = { λ s. s.rows.items };
+
+    ghost invariant = { λ s. (ascending s.rows.items ≡ true) × (vec_len s.rows ≤ places) × (places ≤ vec_capacity s.rows) };
 }
 
 impl GlyphRegister {
     /// An empty register. Its memory is reserved here, so that no request can want for it.
+    #[tactic(auto, using(crate::proofs::Reading::glyph_laws))]
     pub fn new(heap: Global) -> Result<GlyphRegister, AllocError>
-        ensures start { IfOk result (λ s. s.rows.items ≡ []) }
+        ensures start { IfOk result (λ s. s ≡ []) }
         ensures laws { GlyphLaws }
     {
         let rows = Vec::with_capacity(heap, PLACES)?;
         Ok(GlyphRegister { rows })
     }
 
-    /// The rows, ascending by glyph.
+    /// The rows, ascending by glyph, and as many as there are places at most.
     pub fn rows(&self) -> &[GlyphRow]
-        ensures { result.now ≡ self.now.rows.items }
+        ensures rows { result.now ≡ self.now }
+        ensures ordered { ascending self.now ≡ true }
+        ensures few { length self.now ≤ places }
     {
         self.rows.as_slice()
     }
 
-    // A glyph's place: so many rows at the front have a lower glyph, and the next one has not.
-    fn place(&self, glyph: u32) -> usize
-        ensures within { result ≤ vec_len self.now.rows }
-        ensures lower { (k : ℕ) → k < result → (slice_index_or self.now.rows.items k (new_row 0)).glyph < glyph }
-        ensures next { result < vec_len self.now.rows → glyph ≤ (slice_index_or self.now.rows.items result (new_row 0)).glyph }
-    {
-        for (place, row) in self.rows.iter().enumerate() {
-            if row.glyph >= glyph {
-                return place;
-            }
-        }
-        self.rows.len()
-    }
-
     // Where a glyph's row stands, or where it would stand.
     fn find(&self, glyph: u32) -> Result<usize, usize>
-        ensures { MatchResult result (Found self.now.rows.items glyph) (Missing self.now.rows.items glyph) }
+        ensures { MatchResult result (Found self.now glyph) (Missing self.now glyph) }
     {
-        let place = self.place(glyph);
-        if place < self.rows.len() && self.rows[place].glyph == glyph {
-            return Ok(place);
-        }
-        Err(place)
+        self.rows.binary_search_by_key(&glyph, |row| row.glyph)
     }
 
     // A glyph's row, if it has one.
     fn row(&self, glyph: u32) -> Option<GlyphRow>
-        ensures { result ≡ row_of self.now.rows.items glyph }
+        ensures { result ≡ row_of self.now glyph }
     {
-        match self.find(glyph) {
-            Ok(place) => Some(self.rows[place]),
-            Err(_) => None,
-        }
+        let place = self.find(glyph).ok()?;
+        Some(self.rows[place])
     }
 
-    fn read(&self, glyph: u32, measure: Measure) -> (u32, u32)
-        ensures { result ≡ read_reply measure (row_of self.now.rows.items glyph) }
+    fn read(&self, glyph: u32, measure: Measure) -> Result<u32, Failure>
+        ensures { outcome_reply result ≡ read_reply measure (row_of self.now glyph) }
     {
-        match self.row(glyph) {
-            Some(row) => (0, row.get(measure)),
-            None => NOT_AVAILABLE,
-        }
+        let row = self.row(glyph).ok_or(Failure::NotAvailable)?;
+        Ok(row.get(measure))
     }
 
-    fn set(&mut self, glyph: u32, measure: Measure, value: u32) -> (u32, u32)
-        ensures answer { result ≡ set_reply self.old.rows.items glyph value }
-        ensures after { self.new.rows.items ≡ after_set self.old.rows.items measure glyph value }
+    #[tactic(auto, using(crate::proofs::Sets::set_glyph, crate::proofs::Sets::set_refused))]
+    fn set(&mut self, glyph: u32, measure: Measure, value: u32) -> Result<u32, Failure>
+        ensures answer { outcome_reply result ≡ set_reply self.old glyph value }
+        ensures after { self.new ≡ after_set self.old measure glyph value }
     {
         if value > LARGEST_MEASURE {
-            return NOT_TAKEN;
+            return Err(Failure::NotTaken);
         }
-        let row = self
-            .row(glyph)
-            .unwrap_or(GlyphRow::new(glyph))
-            .with(measure, value);
-        if !self.put(row) {
-            return NOT_AVAILABLE;
-        }
-        (0, value)
+        let row = self.row(glyph).unwrap_or(GlyphRow::new(glyph));
+        self.put(row.with(measure, value))?;
+        Ok(value)
     }
 
-    // Puts a row where its glyph belongs, over the row that the glyph had, and says whether there was a place.
-    fn put(&mut self, row: GlyphRow) -> bool
-        ensures answer { result ≡ has_place self.old.rows.items row.glyph }
-        ensures after { self.new.rows.items ≡ (if result then placed self.old.rows.items row else self.old.rows.items) }
+    // Puts a row where its glyph belongs, over the row that the glyph had, if there is a place.
+    #[tactic(auto, using(crate::proofs::Places::placed_ascends))]
+    fn put(&mut self, row: GlyphRow) -> Result<(), Failure>
+        ensures answer { result ≡ put_outcome (has_place self.old row.glyph) }
+        ensures after { self.new ≡ (if is_ok result then placed self.old row else self.old) }
     {
         match self.find(row.glyph) {
-            Ok(place) => {
-                self.rows[place] = row;
-                true
+            Ok(place) => self.rows[place] = row,
+            Err(place) => {
+                if self.rows.len() >= PLACES {
+                    return Err(Failure::NotAvailable);
+                }
+                // The memory was reserved when the register was made, so this cannot fail.
+                self.rows.insert(place, row).unwrap();
             }
-            // With a place free the insertion cannot fail: the memory was reserved when the register was made.
-            Err(place) => self.rows.len() < PLACES && self.rows.insert(place, row).is_ok(),
+        }
+        Ok(())
+    }
+
+    // Carries out a request.
+    fn carry_out(&mut self, request: Request) -> Result<u32, Failure>
+        ensures answer { outcome_reply result ≡ glyph_reply self.old request }
+        ensures after { self.new ≡ glyph_next self.old request }
+    {
+        match Operation::try_from(request.code)? {
+            Operation::Set(measure) => self.set(request.key, measure, request.value),
+            Operation::Read(measure) => self.read(request.key, measure),
         }
     }
 }
@@ -127,7 +127,7 @@ impl GlyphRegister {
 impl Service for GlyphRegister {
     ghost State = { List GlyphRow };
 
-    ghost state = { λ s. s.rows.items };
+    ghost state = { λ s. s };
 
     ghost next = { glyph_next };
 
@@ -136,23 +136,20 @@ impl Service for GlyphRegister {
     ghost written = { glyphs_written };
 
     fn apply(&mut self, request: Request) -> (u32, u32) {
-        match read_code(request.code) {
-            None => NOT_TAKEN,
-            Some(Operation::Set(measure)) => self.set(request.key, measure, request.value),
-            Some(Operation::Read(measure)) => self.read(request.key, measure),
-        }
+        reply_of(self.carry_out(request))
     }
 
+    #[tactic(auto, using(crate::proofs::Written::written_length))]
     fn written_len(&self) -> usize {
         COUNT_BYTES + ROW_BYTES * self.rows.len()
     }
 
+    #[tactic(auto, using(crate::proofs::Written::written_length, crate::proofs::Written::none_written, crate::proofs::Written::all_written))]
     fn write(&self, out: &mut [u8]) -> Option<usize> {
-        let rows = self.rows.as_slice();
-        if out.len() < COUNT_BYTES + ROW_BYTES * rows.len() {
+        if out.len() < self.written_len() {
             return None;
         }
-        let at = put_int(out, 0, rows.len() as u32);
-        Some(put_rows(out, at, rows))
+        let at = (self.rows.len() as u32).put_row(out, 0);
+        Some(put_rows(out, at, &self.rows))
     }
 }

@@ -1,9 +1,11 @@
 // What a request's code asks of the glyph register.
 ghost use Rattle.std.specs.Prelude.{◌≡◌};
-ghost use Rattle.registers.specs.Operations.{operation_of};
+ghost use Rattle.registers.specs.Operations.{operation_or_failure};
+
+use service::Failure;
 
 /// One of the two numbers that a glyph has.
-#[derive(Clone, Copy, Debug)]
+#[derive(Clone, Copy, PartialEq, Eq, Debug)]
 pub enum Measure {
     /// How far the pen moves.
     Advance,
@@ -12,21 +14,25 @@ pub enum Measure {
 }
 
 /// Setting or reading one of them.
-#[derive(Clone, Copy)]
+#[derive(Clone, Copy, PartialEq, Eq, Debug)]
 pub enum Operation {
     Set(Measure),
     Read(Measure),
 }
 
 /// The operation that a code stands for, if it stands for one.
-pub fn read_code(code: u32) -> Option<Operation>
-    ensures { result ≡ operation_of code }
-{
-    match code {
-        1 => Some(Operation::Set(Measure::Advance)),
-        2 => Some(Operation::Set(Measure::Bearing)),
-        3 => Some(Operation::Read(Measure::Advance)),
-        4 => Some(Operation::Read(Measure::Bearing)),
-        _ => None,
+impl TryFrom<u32> for Operation {
+    type Error = Failure;
+
+    ghost try_from_gives = { λ code answer. answer ≡ operation_or_failure code };
+
+    fn try_from(code: u32) -> Result<Operation, Failure> {
+        match code {
+            1 => Ok(Operation::Set(Measure::Advance)),
+            2 => Ok(Operation::Set(Measure::Bearing)),
+            3 => Ok(Operation::Read(Measure::Advance)),
+            4 => Ok(Operation::Read(Measure::Bearing)),
+            _ => Err(Failure::NotTaken),
+        }
     }
 }

@@ -1,12 +1,14 @@
 // The release line: one number that only rises.
 ghost use Rattle.std.specs.Prelude.{◌≡◌, ℕ};
+ghost use Rattle.service.specs.Failures.{outcome_reply};
 ghost use Rattle.xdr.specs.Layout.{int};
 ghost use Rattle.registers.specs.Release.{release_reply, release_next};
 ghost use Rattle.registers.specs.ReleaseLaws.{ReleaseLaws};
 
-use service::{NOT_AVAILABLE, NOT_TAKEN, Service};
+use service::{Failure, Service, reply_of};
+use std::marker::Model;
 use terms::Request;
-use xdr::put_int;
+use xdr::Row;
 
 const RAISE: u32 = 1;
 
@@ -20,10 +22,17 @@ pub struct ReleaseLine {
     released: u32,
 }
 
+/// A line stands for its latest release.
+impl Model for ReleaseLine {
+    ghost Value = { ℕ };
+
+    ghost view = { λ s. s.released };
+}
+
 impl ReleaseLine {
     /// A line on which nothing was released yet.
     pub fn new() -> ReleaseLine
-        ensures start { result.released ≡ 0 }
+        ensures start { result ≡ 0 }
         ensures laws { ReleaseLaws }
     {
         ReleaseLine { released: 0 }
@@ -31,16 +40,30 @@ impl ReleaseLine {
 
     /// The latest release.
     pub fn released(&self) -> u32
-        ensures { result ≡ self.now.released }
+        ensures { result ≡ self.now }
     {
         self.released
+    }
+
+    // Carries out a request.
+    fn carry_out(&mut self, request: Request) -> Result<u32, Failure>
+        ensures answer { outcome_reply result ≡ release_reply self.old request }
+        ensures after { self.new ≡ release_next self.old request }
+    {
+        match request.code {
+            RAISE if request.value <= self.released => return Err(Failure::NotAvailable),
+            RAISE => self.released = request.value,
+            READ => {}
+            _ => return Err(Failure::NotTaken),
+        }
+        Ok(self.released)
     }
 }
 
 impl Service for ReleaseLine {
     ghost State = { ℕ };
 
-    ghost state = { λ s. s.released };
+    ghost state = { λ s. s };
 
     ghost next = { release_next };
 
@@ -49,17 +72,7 @@ impl Service for ReleaseLine {
     ghost written = { int };
 
     fn apply(&mut self, request: Request) -> (u32, u32) {
-        match request.code {
-            RAISE => {
-                if request.value <= self.released {
-                    return NOT_AVAILABLE;
-                }
-                self.released = request.value;
-                (0, request.value)
-            }
-            READ => (0, self.released),
-            _ => NOT_TAKEN,
-        }
+        reply_of(self.carry_out(request))
     }
 
     fn written_len(&self) -> usize {
@@ -70,6 +83,6 @@ impl Service for ReleaseLine {
         if out.len() < WRITTEN_BYTES {
             return None;
         }
-        Some(put_int(out, 0, self.released))
+        Some(self.released.put_row(out, 0))
     }
 }

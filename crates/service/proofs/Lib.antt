@@ -1,4 +1,3 @@
 -- The lemmas that the answers share, and those that other services cite.
-mod Once
 mod Rows
 pub mod Writes

@@ -1,8 +1,9 @@
 -- The written sessions: the rows of all clients in front, the state below behind them.
+use Rattle.std.proofs.lemmas.Grind.{common_steps}
 use Rattle.std.proofs.Common.{◌≡◌, ℕ, ◌+◌, ◌-◌, ◌*◌, ◌<◌, ◌≤◌, List, length, take, drop, Some, None, sym, refl, ap, ◌∙◌, arith, length-append, length-drop, rules}
 use borrow.Rule.Slice.PartMut.{put_mid}
 use Rattle.std.specs.List.{flat_map}
-use Rattle.std.proofs.lemmas.List.{same_lists, places, take_rest}
+use Rattle.std.proofs.lemmas.List.{take_rest}
 use Rattle.xdr.specs.Layout.{pasted}
 use Rattle.xdr.proofs.Listing.{length-joined}
 use Rattle.xdr.proofs.Pasting.{pasted_behind}
@@ -15,7 +16,7 @@ use Rattle.service.proofs.Writes.{written_whole, written_nothing, fits_from_some
 
 -- the rest of a buffer, handed back as it was
 put_back : (buffer rest : List ℕ) (n k : ℕ) → k ≡ length buffer - n → n ≤ length buffer → rest ≡ drop n buffer → put_mid n k buffer rest ≡ buffer
-put_back buffer rest n k e within same = rw same (same_lists _ _ (search (rules, places)) (λ j d i. grind (arith, places)))
+put_back buffer rest n k e within same = grind (arith, common_steps)
 
 length-rows : (kept : List Kept) → length kept ≡ clients → length (flat_map kept_bytes kept) ≡ 192
 length-rows kept full = length-joined kept_bytes 12 kept (every (λ k. length (kept_bytes k) ≡ 12) (λ k. search rules) kept) ∙ ap (λ n. 12 * n) full
@@ -57,8 +58,4 @@ module _ {St : Type 0} (written : St → List ℕ) (kept : List Kept) (below : S
 
   -- and their length is a buffer's length at most
   pub both_within : (buffer rest : List ℕ) (n : ℕ) → 192 ≤ length buffer → (Some n, rest) ≡ written_into (written below) (behind buffer) → 192 + n ≤ length buffer
-  both_within buffer rest n within some =
-      let why = fits_from_some (written below) (behind buffer) rest n some in
-      let fits = why.0 in
-      let long = why.1 in
-      omega (arith, length-behind buffer)
+  both_within buffer rest n within some = grind (arith, common_steps)

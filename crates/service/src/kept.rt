@@ -8,7 +8,7 @@ use xdr::{Row, put_rows};
 pub const KEPT_BYTES: usize = 12;
 
 /// A client's last sequence and the reply that it got. All are 0 before the client's first request.
-#[derive(Clone, Copy, Debug)]
+#[derive(Clone, Copy, PartialEq, Eq, Debug)]
 pub struct Kept {
     pub sequence: u32,
     /// Status and value.

@@ -2,11 +2,11 @@
 #![tactic(auto)]
 
 mod contract;
+mod failures;
 mod kept;
-mod replies;
 mod sessions;
 
 pub use contract::Service;
+pub use failures::{Failure, reply_of};
 pub use kept::Kept;
-pub use replies::{NO_SUCH_CLIENT, NOT_AVAILABLE, NOT_TAKEN, OLD_SEQUENCE};
 pub use sessions::{CLIENTS, Sessions};

@@ -5,8 +5,9 @@ ghost use Rattle.service.specs.Laws.{SessionLaws};
 ghost use Rattle.service.specs.Sessions.{clients, nothing_kept, session_reply, session_next, session_written};
 
 use super::contract::Service;
+use super::failures::Failure;
 use super::kept::{KEPT_BYTES, Kept};
-use super::replies::{NO_SUCH_CLIENT, OLD_SEQUENCE};
+use std::cmp::Ordering;
 use terms::Request;
 use xdr::put_rows;
 
@@ -62,22 +63,22 @@ impl<S: Service> Service for Sessions<S> {
 
     fn apply(&mut self, request: Request) -> (u32, u32) {
         let client = request.client as usize;
-        if client >= CLIENTS {
-            return NO_SUCH_CLIENT;
-        }
-        let kept = self.kept[client];
-        if request.sequence == 0 || request.sequence < kept.sequence {
-            return OLD_SEQUENCE;
-        }
-        if request.sequence == kept.sequence {
-            return kept.reply;
-        }
-        let reply = self.below.apply(request);
-        self.kept[client] = Kept {
-            sequence: request.sequence,
-            reply,
+        let Some(kept) = self.kept.get(client).copied() else {
+            return Failure::NoSuchClient.into();
         };
-        reply
+        match request.sequence.cmp(&kept.sequence) {
+            _ if request.sequence == 0 => Failure::OldSequence.into(),
+            Ordering::Less => Failure::OldSequence.into(),
+            Ordering::Equal => kept.reply,
+            Ordering::Greater => {
+                let reply = self.below.apply(request);
+                self.kept[client] = Kept {
+                    sequence: request.sequence,
+                    reply,
+                };
+                reply
+            }
+        }
     }
 
     fn written_len(&self) -> usize {
@@ -88,10 +89,7 @@ impl<S: Service> Service for Sessions<S> {
         if out.len() < ROWS_BYTES {
             return None;
         }
-        let Some(below) = self.below.write(&mut out[ROWS_BYTES..]) else {
-            return None;
-        };
-        let rows = put_rows(out, 0, &self.kept);
-        Some(rows + below)
+        let below = self.below.write(&mut out[ROWS_BYTES..])?;
+        Some(put_rows(out, 0, &self.kept) + below)
     }
 }
