@@ -5,6 +5,7 @@
 mod stops;
 mod works;
 
+use console::told;
 use script::{Hex, read_number};
 use std::env;
 use std::process::ExitCode;
@@ -13,35 +14,19 @@ use stops::Stop;
 use works::{WORKS, Work};
 
 fn main(rt: HostRuntime) -> ExitCode {
-    match run(&rt) {
-        Ok(()) => ExitCode::SUCCESS,
-        Err(stop) => {
-            // Where even this cannot be said, the exit status still tells.
-            let _ = eprintln!(rt; "{stop}");
-            ExitCode::FAILURE
-        }
-    }
+    let outcome = run(&rt);
+    told(&rt, outcome)
 }
 
 fn run(rt: &HostRuntime) -> Result<(), Stop> {
-    let Ok(mut arguments) = env::args(rt) else {
-        return Err(Stop::Arguments);
+    let mut arguments = env::args(rt).map_err(|_| Stop::Arguments)?.skip(1);
+    let Some(work) = arguments.next() else {
+        return show_all(rt);
     };
-    let _ = arguments.next();
-    let (work, count) = (arguments.next(), arguments.next());
-    match (work, count) {
-        (None, _) => show_all(rt),
-        (Some(work), Some(count)) => {
-            let Some(work) = Work::named(work.as_bytes()) else {
-                return Err(Stop::Arguments);
-            };
-            let Some(count) = read_number(count.as_bytes()) else {
-                return Err(Stop::Arguments);
-            };
-            time(rt, work, count)
-        }
-        (Some(_), None) => Err(Stop::Arguments),
-    }
+    let count = arguments.next().ok_or(Stop::Arguments)?;
+    let work = Work::named(work.as_str()).ok_or(Stop::Arguments)?;
+    let count = read_number(count.as_bytes()).ok_or(Stop::Arguments)?;
+    time(rt, work, count)
 }
 
 fn show_all(rt: &HostRuntime) -> Result<(), Stop> {

@@ -10,7 +10,7 @@ const LONG: usize = 16384;
 const STATEMENT: usize = 60;
 
 /// What is timed.
-#[derive(Clone, Copy)]
+#[derive(Clone, Copy, PartialEq, Eq, Debug)]
 pub enum Work {
     /// SHA-256 of 16 KiB.
     Digests,
@@ -43,62 +43,63 @@ impl fmt::Display for Work {
 
 impl Work {
     /// The work that an argument names.
-    pub fn named(word: &[u8]) -> Option<Work> {
-        if word == b"sha256".as_slice() {
-            Some(Work::Digests)
-        } else if word == b"hmac".as_slice() {
-            Some(Work::HmacTags)
-        } else if word == b"cmac".as_slice() {
-            Some(Work::LongCmacTags)
-        } else if word == b"cmac-tags".as_slice() {
-            Some(Work::CmacTags)
-        } else {
-            None
+    pub fn named(word: &str) -> Option<Work> {
+        match word {
+            "sha256" => Some(Work::Digests),
+            "hmac" => Some(Work::HmacTags),
+            "cmac" => Some(Work::LongCmacTags),
+            "cmac-tags" => Some(Work::CmacTags),
+            _ => None,
         }
     }
 
     /// Does the work count times, and gives the last message with the last result at its front.
     pub fn run(self, heap: Global, count: u32) -> Result<Vec<u8>, AllocError> {
-        let len = match self {
-            Work::Digests | Work::LongCmacTags => LONG,
-            Work::HmacTags | Work::CmacTags => STATEMENT,
-        };
-        let mut message = vec![in heap; b'a'; len]?;
         match self {
-            Work::Digests => digests(message.as_mut_slice(), count),
-            Work::HmacTags => hmac_tags(message.as_mut_slice(), count),
-            Work::LongCmacTags | Work::CmacTags => cmac_tags(message.as_mut_slice(), count),
+            Work::Digests => repeated(heap, LONG, count, |message| {
+                let result = digest(message);
+                overwrite(message, result);
+            }),
+            Work::HmacTags => {
+                let key = HmacKey::new(&[7; 32]);
+                repeated(heap, STATEMENT, count, |message| {
+                    let result = key.tag(message);
+                    overwrite(message, result);
+                })
+            }
+            Work::LongCmacTags => repeated_cmac(heap, LONG, count),
+            Work::CmacTags => repeated_cmac(heap, STATEMENT, count),
         }
-        Ok(message)
     }
 }
 
-fn digests(message: &mut [u8], count: u32) {
-    for _ in 0..count {
-        let result = digest(message);
-        overwrite(message, &result);
-    }
-}
-
-fn hmac_tags(message: &mut [u8], count: u32) {
-    let key = HmacKey::new(&[7; 32]);
-    for _ in 0..count {
-        let tag = key.tag(message);
-        overwrite(message, &tag);
-    }
-}
-
-fn cmac_tags(message: &mut [u8], count: u32) {
+fn repeated_cmac(heap: Global, len: usize, count: u32) -> Result<Vec<u8>, AllocError> {
     let key = CmacKey::new(&[7; 16]);
+    repeated(heap, len, count, |message| {
+        let result = key.tag(message);
+        overwrite(message, result);
+    })
+}
+
+// Works on a message count times, and gives the last message.
+fn repeated<F: Fn(&mut [u8])>(
+    heap: Global,
+    len: usize,
+    count: u32,
+    work: F,
+) -> Result<Vec<u8>, AllocError>
+    requires { F.IsAlwaysCallable work }
+{
+    let mut message = vec![in heap; b'a'; len]?;
     for _ in 0..count {
-        let tag = key.tag(message);
-        overwrite(message, &tag);
+        work(&mut message);
     }
+    Ok(message)
 }
 
 // Writes a result over the front of a message, where it fits.
-fn overwrite(message: &mut [u8], bytes: &[u8]) {
-    if bytes.len() <= message.len() {
-        message[..bytes.len()].copy_from_slice(bytes);
+fn overwrite<const N: usize>(message: &mut [u8], tag: [u8; N]) {
+    if let Some(front) = message.first_chunk_mut() {
+        *front = tag;
     }
 }

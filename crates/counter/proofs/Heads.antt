@@ -1,8 +1,7 @@
 -- The bytes of a statement: as they are written, and that no two statements share them.
-use Rattle.std.proofs.Common.{◌≡◌, ℕ, ◌+◌, List, [], ◌∷◌, ◌++◌, length, ◌∙◌, append_assoc, arith}
+use Rattle.std.proofs.Common.{◌≡◌, ℕ, List, [], ◌∷◌, length, ◌∙◌, arith}
 use Rattle.std.proofs.lemmas.List.{append-nil, drop_all}
 use Rattle.std.specs.List.{flat_map}
-use Rattle.xdr.proofs.Numbers.{int_begins, hyper_begins}
 use Rattle.xdr.proofs.Pasting.{pasted_front, pasted_then}
 use Rattle.xdr.specs.Layout.{int, hyper, pasted}
 use Rattle.counter.specs.Statements.{Stated, head_bytes, StatementsApart}
@@ -21,11 +20,4 @@ head_written s buffer ints both at long first place second =
 -- the two statements say the same, field by field
 pub statements_apart : StatementsApart
 unfolding head_bytes
-statements_apart s t f g e =
-    let joined_e = simp append_assoc at e in
-    let k = int_begins s.kind t.kind _ _ f.kind_fits g.kind_fits joined_e in
-    let p = int_begins s.seat t.seat _ _ f.seat_fits g.seat_fits k.1 in
-    let n = int_begins s.number t.number _ _ f.number_fits g.number_fits p.1 in
-    let v = hyper_begins s.new t.new _ _ f.new_fits g.new_fits n.1 in
-    let o = hyper_begins s.old t.old _ _ f.old_fits g.old_fits v.1 in
-    λ i. record { kind = k.0 i; seat = p.0 i; number = n.0 i; new = v.0 i; old = o.0 i; message = o.1 i }
+statements_apart s t f g e = grind arith

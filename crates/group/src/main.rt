@@ -6,20 +6,15 @@ mod plays;
 mod records;
 mod stops;
 
+use console::told;
 use inputs::read_script;
 use plays::play;
 use std::process::ExitCode;
 use stops::Stop;
 
 fn main(rt: HostRuntime) -> ExitCode {
-    match run(&rt) {
-        Ok(()) => ExitCode::SUCCESS,
-        Err(stop) => {
-            // Where even this cannot be said, the exit status still tells.
-            let _ = eprintln!(rt; "{stop}");
-            ExitCode::FAILURE
-        }
-    }
+    let outcome = run(&rt);
+    told(&rt, outcome)
 }
 
 fn run(rt: &HostRuntime) -> Result<(), Stop> {

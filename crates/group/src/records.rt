@@ -2,15 +2,16 @@
 use super::stops::Stop;
 use registers::GlyphRow;
 use script::{Hex, Tally};
-use service::Service;
+use service::{Failure, Service};
+use std::fmt::Display;
+use std::io;
 
-// The statuses and what they mean.
-const MEANINGS: [(u32, &str); 5] = [
-    (0, "done"),
-    (1, "no such code, or the value is too large"),
-    (2, "unknown, no place left, or not above"),
-    (3, "no such client"),
-    (4, "an old sequence, or 0"),
+// Why requests fail, by ascending status.
+const FAILURES: [Failure; 4] = [
+    Failure::NotTaken,
+    Failure::NotAvailable,
+    Failure::NoSuchClient,
+    Failure::OldSequence,
 ];
 
 /// Prints the written state, how many requests were applied and how many got each status.
@@ -22,11 +23,23 @@ pub fn close<S: Service>(rt: &HostRuntime, service: &S, tally: &Tally) -> Result
     println!(rt; "written {len} {bytes}")?;
     let applied = tally.applied();
     println!(rt; "requests applied: {applied}")?;
-    for (status, meaning) in MEANINGS {
-        let count = tally.of(status);
-        if count > 0 {
-            println!(rt; "  status {status}: {count} ({meaning})")?;
-        }
+    show_count(rt, tally, 0, "done")?;
+    for failure in FAILURES {
+        show_count(rt, tally, failure.status(), failure)?;
+    }
+    Ok(())
+}
+
+// Prints how many requests got a status, if any did.
+fn show_count(
+    rt: &HostRuntime,
+    tally: &Tally,
+    status: u32,
+    meaning: impl Display + Drop,
+) -> io::Result<()> {
+    let count = tally.of(status);
+    if count > 0 {
+        println!(rt; "  status {status}: {count} ({meaning})")?;
     }
     Ok(())
 }
@@ -34,10 +47,11 @@ pub fn close<S: Service>(rt: &HostRuntime, service: &S, tally: &Tally) -> Result
 /// Prints a table of the glyphs and their numbers.
 pub fn show_rows(rt: &HostRuntime, rows: &[GlyphRow]) -> Result<(), Stop> {
     println!(rt; "  {:>10}  {:>7}  {:>7}", "glyph", "advance", "bearing")?;
-    for row in rows {
-        let glyph = row.glyph;
-        let advance = row.advance;
-        let bearing = row.bearing;
+    for GlyphRow {
+        glyph,
+        advance,
+        bearing,
+    } in rows {
         println!(rt; "  {glyph:>10}  {advance:>7}  {bearing:>7}")?;
     }
     Ok(())
