@@ -1,4 +1,5 @@
 -- Bytes compared by gathering their differences.
+use Rattle.std.proofs.lemmas.Grind.{common_steps}
 use Rattle.std.proofs.Common.{◌≡◌, ℕ, suc, ◌+◌, ◌<◌, ◌≤◌, Bool, true, false, ◌&&◌, eqb, List, [], ◌∷◌, length, get_or, drop, sym, refl, ap, ◌∙◌, ⊎_elim, arith}
 use lib.Bits.{bit_or, bit_xor, or_add_and, and_le_l, and_le_r, xor_self, xor_assoc, xor_zero_l, xor_zero_r}
 use Rattle.std.proofs.lemmas.List.{at_drop_more, at_drop_all}
@@ -46,13 +47,7 @@ same_goes_on d xs ys i inside within =
     ∙ ap (λ t. eqb d 0 && t) (sym (at_drop_more (λ rest. bytes_eq rest (drop i ys)) xs i 0 inside ∙ at_drop_more (λ rest. bytes_eq (get_or xs i 0 ∷ drop (i + 1) xs) rest) ys i 0 within))
 
 pub same_at_the_end : (d : ℕ) (xs ys : List ℕ) (i : ℕ) → length xs ≤ i → length ys ≤ i → same_so_far d xs ys i ≡ eqb d 0
-same_at_the_end d xs ys i all whole =
-    ap (λ t. eqb d 0 && t) (at_drop_all (λ rest. bytes_eq rest (drop i ys)) xs i all ∙ at_drop_all (λ rest. bytes_eq [] rest) ys i whole)
-    ∙ and_true (eqb d 0)
-  where
-    and_true : (x : Bool) → (x && true) ≡ x
-    and_true true = refl
-    and_true false = refl
+same_at_the_end d xs ys i all whole = grind (arith, common_steps)
 
 -- bytes of different lengths are not the same
 pub lengths_differ : (xs ys : List ℕ) → (length xs ≡ length ys → ⊥) → bytes_eq xs ys ≡ false

@@ -6,6 +6,7 @@ use terms::TAG_BYTES;
 
 /// Whether a tag is the one that is shown. Every byte is looked at, also behind a difference, so that the time tells
 /// nothing of where the two part.
+#[tactic(auto, using(std::proofs::lemmas::Slice::Zip::zip_turn, crate::proofs::Differences::same_goes_on))]
 pub fn same_tag(tag: &[u8; TAG_BYTES], shown: &[u8]) -> bool
     ensures { result ≡ bytes_eq tag.now shown.now }
 {
@@ -13,8 +14,8 @@ pub fn same_tag(tag: &[u8; TAG_BYTES], shown: &[u8]) -> bool
         return false;
     }
     let mut difference = 0;
-    for i in 0..TAG_BYTES {
-        difference |= tag[i] ^ shown[i];
+    for (ours, theirs) in tag.iter().zip(shown) {
+        difference |= ours ^ theirs;
     }
     difference == 0
 }

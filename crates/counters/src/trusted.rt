@@ -77,11 +77,8 @@ impl<M: Mac> Counter for TrustedCounter<M> {
     }
 
     fn value(&self, number: u32) -> Result<u64, Refusal> {
-        let at = number as usize;
-        if at >= COUNTERS {
-            return Err(Refusal::NoSuchCounter);
-        }
-        Ok(self.values[at])
+        let value = self.values.get(number as usize);
+        value.copied().ok_or(Refusal::NoSuchCounter)
     }
 
     fn certify(

@@ -1,11 +1,12 @@
 // The published functions, by the names that the lines use.
-use super::pieces::{cmac_in_pieces, hmac_in_pieces, sha256_in_pieces};
+use super::pieces::in_pieces;
+use super::stops::Fault;
 use aes::{Aes128, CmacKey, double, double_block};
-use sha256::{HmacKey, digest};
+use sha256::{HmacKey, Sha256, digest};
 use std::fmt;
 
 /// A published function.
-#[derive(Clone, Copy)]
+#[derive(Clone, Copy, PartialEq, Eq, Debug)]
 pub enum Function {
     Sha256,
     Hmac,
@@ -31,20 +32,14 @@ impl fmt::Display for Function {
 impl Function {
     /// The function that a line names.
     pub fn named(word: &[u8]) -> Option<Function> {
-        if word == b"sha256".as_slice() {
-            Some(Function::Sha256)
-        } else if word == b"hmac".as_slice() {
-            Some(Function::Hmac)
-        } else if word == b"double".as_slice() {
-            Some(Function::Double)
-        } else if word == b"aes".as_slice() {
-            Some(Function::Aes)
-        } else if word == b"double-block".as_slice() {
-            Some(Function::DoubleBlock)
-        } else if word == b"cmac".as_slice() {
-            Some(Function::Cmac)
-        } else {
-            None
+        match word {
+            b"sha256" => Some(Function::Sha256),
+            b"hmac" => Some(Function::Hmac),
+            b"double" => Some(Function::Double),
+            b"aes" => Some(Function::Aes),
+            b"double-block" => Some(Function::DoubleBlock),
+            b"cmac" => Some(Function::Cmac),
+            _ => None,
         }
     }
 
@@ -53,52 +48,51 @@ impl Function {
         matches!(self, Function::Hmac | Function::Aes | Function::Cmac)
     }
 
-    /// Whether the function gives the published result, at once and, where it takes a message, also in pieces.
-    /// Nothing where the key or the input has a length that it does not take.
-    pub fn gives(self, key: &[u8], input: &[u8], published: &[u8]) -> Option<bool> {
-        Some(match self {
-            Function::Sha256 => begins(&digest(input), published)
-                && begins(&sha256_in_pieces(input), published),
+    /// Holds the function's result to the published one: at once and, where it takes a message, also in pieces.
+    pub fn compare(self, key: &[u8], input: &[u8], published: &[u8]) -> Result<(), Fault> {
+        let expected = Published(published);
+        match self {
+            Function::Sha256 => {
+                expected.begins(&digest(input))?;
+                expected.begins(&in_pieces(Sha256::new(), input))
+            }
             Function::Hmac => {
                 let key = HmacKey::new(key);
-                begins(&key.tag(input), published)
-                    && begins(&hmac_in_pieces(&key, input), published)
+                expected.begins(&key.tag(input))?;
+                expected.begins(&in_pieces(key.start(), input))
             }
-            Function::Double => begins(&[double(byte_of(input)?)], published),
-            Function::Aes => begins(
-                &Aes128::new(&block_of(key)?).encrypt(block_of(input)?),
-                published,
-            ),
-            Function::DoubleBlock => begins(&double_block(block_of(input)?), published),
+            Function::Double => {
+                let [byte] = input else {
+                    return Err(Fault::Unread);
+                };
+                expected.begins(&[double(*byte)])
+            }
+            Function::Aes => {
+                expected.begins(&Aes128::new(block_of(key)?).encrypt(*block_of(input)?))
+            }
+            Function::DoubleBlock => expected.begins(&double_block(*block_of(input)?)),
             Function::Cmac => {
-                let key = CmacKey::new(&block_of(key)?);
-                begins(&key.tag(input), published)
-                    && begins(&cmac_in_pieces(&key, input), published)
+                let key = CmacKey::new(block_of(key)?);
+                expected.begins(&key.tag(input))?;
+                expected.begins(&in_pieces(key.start(), input))
             }
-        })
+        }
     }
 }
 
-// Whether a result begins with the published bytes, of which there must be some.
-fn begins(ours: &[u8], published: &[u8]) -> bool {
-    !published.is_empty() && ours.starts_with(published)
-}
+// Published bytes, with which a result begins. There must be some.
+struct Published<'a>(&'a [u8]);
 
-// The only byte, if there is just one.
-fn byte_of(bytes: &[u8]) -> Option<u8> {
-    if bytes.len() == 1 {
-        Some(bytes[0])
-    } else {
-        None
+impl Published<'_> {
+    fn begins(&self, ours: &[u8]) -> Result<(), Fault> {
+        if self.0.is_empty() || !ours.starts_with(self.0) {
+            return Err(Fault::Differs);
+        }
+        Ok(())
     }
 }
 
 // Sixteen bytes, if there are so many.
-fn block_of(bytes: &[u8]) -> Option<[u8; 16]> {
-    if bytes.len() != 16 {
-        return None;
-    }
-    let mut block = [0; 16];
-    block.copy_from_slice(bytes);
-    Some(block)
+fn block_of(bytes: &[u8]) -> Result<&[u8; 16], Fault> {
+    bytes.try_into().map_err(|_| Fault::Unread)
 }

@@ -1,66 +1,56 @@
 // One line of published input and result.
 use super::functions::Function;
+use super::stops::{Fault, Stop};
 use super::texts::read_bytes;
 use script::next_word;
-use std::alloc::{AllocError, Global};
+use std::alloc::Global;
 
-/// What became of a line.
-#[derive(Clone, Copy)]
-pub enum Outcome {
-    /// It is empty, or a comment.
-    Nothing,
-    /// It cannot be read.
-    Unread,
-    /// The function gives the published result, or another.
-    Ran(Function, bool),
+// A line that is read word by word.
+struct Line<'a> {
+    number: u64,
+    rest: &'a [u8],
 }
 
-/// Runs the line's function on the line's bytes.
-pub fn run_line(heap: Global, line: &[u8]) -> Result<Outcome, AllocError> {
-    let Some((name, rest)) = next_word(line) else {
-        return Ok(Outcome::Nothing);
-    };
-    let Some(function) = Function::named(name) else {
-        return Ok(Outcome::Unread);
-    };
-    let Some((key, rest)) = read_key(heap, function, rest)? else {
-        return Ok(Outcome::Unread);
-    };
-    let Some((input, rest)) = read_next(heap, rest)? else {
-        return Ok(Outcome::Unread);
-    };
-    let Some((published, rest)) = read_next(heap, rest)? else {
-        return Ok(Outcome::Unread);
-    };
-    if next_word(rest).is_some() {
-        return Ok(Outcome::Unread);
+impl<'a> Line<'a> {
+    // The next word, if there is one.
+    fn word(&mut self) -> Option<&'a [u8]> {
+        let (word, rest) = next_word(self.rest)?;
+        self.rest = rest;
+        Some(word)
     }
-    match function.gives(key.as_slice(), input.as_slice(), published.as_slice()) {
-        Some(same) => Ok(Outcome::Ran(function, same)),
-        None => Ok(Outcome::Unread),
+
+    // The bytes that the next word writes.
+    fn bytes(&mut self, heap: Global) -> Result<Vec<u8>, Stop> {
+        let word = self.word().ok_or(self.stop(Fault::Unread))?;
+        read_bytes(heap, word)?.ok_or(self.stop(Fault::Unread))
+    }
+
+    // That the line is at fault.
+    fn stop(&self, fault: Fault) -> Stop {
+        Stop::Line(self.number, fault)
     }
 }
 
-// The key, where the function takes one.
-fn read_key(
-    heap: Global,
-    function: Function,
-    line: &[u8],
-) -> Result<Option<(Vec<u8>, &[u8])>, AllocError> {
-    if function.takes_key() {
-        read_next(heap, line)
-    } else {
-        Ok(Some((Vec::new(heap), line)))
-    }
-}
-
-// The bytes that the next word writes, and what is left of the line.
-fn read_next(heap: Global, line: &[u8]) -> Result<Option<(Vec<u8>, &[u8])>, AllocError> {
-    let Some((word, rest)) = next_word(line) else {
+/// Runs the function that a line names on the line's bytes, and holds the result to the published one.
+/// A line that is empty or a comment names none.
+pub fn run_line(heap: Global, number: u64, line: &[u8]) -> Result<Option<Function>, Stop> {
+    let mut line = Line { number, rest: line };
+    let Some(name) = line.word() else {
         return Ok(None);
     };
-    match read_bytes(heap, word)? {
-        Some(bytes) => Ok(Some((bytes, rest))),
-        None => Ok(None),
+    let function = Function::named(name).ok_or(line.stop(Fault::Unread))?;
+    let key = if function.takes_key() {
+        line.bytes(heap)?
+    } else {
+        Vec::new(heap)
+    };
+    let input = line.bytes(heap)?;
+    let published = line.bytes(heap)?;
+    if line.word().is_some() {
+        return Err(line.stop(Fault::Unread));
+    }
+    match function.compare(&key, &input, &published) {
+        Ok(()) => Ok(Some(function)),
+        Err(fault) => Err(line.stop(fault)),
     }
 }

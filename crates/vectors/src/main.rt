@@ -8,23 +8,16 @@ mod proved;
 mod stops;
 mod texts;
 
-use lines::{Outcome, run_line};
+use console::{read_input, told};
+use lines::run_line;
 use proved::proved_results;
 use script::Lines;
-use std::io;
-use std::io::Read;
 use std::process::ExitCode;
 use stops::Stop;
 
 fn main(rt: HostRuntime) -> ExitCode {
-    match run(&rt) {
-        Ok(()) => ExitCode::SUCCESS,
-        Err(stop) => {
-            // Where even this cannot be said, the exit status still tells.
-            let _ = eprintln!(rt; "{stop}");
-            ExitCode::FAILURE
-        }
-    }
+    let outcome = run(&rt);
+    told(&rt, outcome)
 }
 
 fn run(rt: &HostRuntime) -> Result<(), Stop> {
@@ -33,14 +26,9 @@ fn run(rt: &HostRuntime) -> Result<(), Stop> {
     let mut agreed = 0u64;
     while let Some(line) = lines.next() {
         let number = lines.number();
-        match run_line(rt.alloc(), line)? {
-            Outcome::Nothing => {}
-            Outcome::Unread => return Err(Stop::Line(number)),
-            Outcome::Ran(function, true) => {
-                agreed = agreed.saturating_add(1);
-                println!(rt; "{number} {function}: as published")?;
-            }
-            Outcome::Ran(_, false) => return Err(Stop::Differs(number)),
+        if let Some(function) = run_line(rt.alloc(), number, line)? {
+            agreed = agreed.saturating_add(1);
+            println!(rt; "{number} {function}: as published")?;
         }
     }
     let proved = proved_results();
@@ -48,10 +36,4 @@ fn run(rt: &HostRuntime) -> Result<(), Stop> {
         "{agreed} results as published; {proved} published results are proved of the definitions"
     )?;
     Ok(())
-}
-
-fn read_input(rt: &HostRuntime) -> io::Result<Vec<u8>> {
-    let mut bytes = Vec::new(rt.alloc());
-    let _ = rt.stdin().read_to_end(&mut bytes)?;
-    Ok(bytes)
 }
