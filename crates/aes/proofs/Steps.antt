@@ -1,19 +1,20 @@
--- The rounds, their keys and the bytes of Rcon, one step on.
-use Rattle.std.proofs.Common.{◌≡◌, ℕ, suc, ◌+◌, ◌-◌, ◌≤◌, List, [], get_or, sym, refl, ap, ◌∙◌, add-one, arith}
+-- The rounds as a fold, and the round keys one step on.
+use Rattle.std.proofs.Common.{◌≡◌, ℕ, zero, suc, ◌+◌, ◌<◌, List, [], get_or, take, drop, length, sym, refl, ap, ◌∙◌, add-one, arith, length-drop}
+use Rattle.std.specs.List.{fold}
+use Rattle.std.proofs.lemmas.List.{get_or-drop}
+use Rattle.std.proofs.lemmas.List.Sums.{fold_more}
 use Rattle.aes.specs.Field.{xtime}
 use Rattle.aes.specs.Cipher.{round, rounds, round_key, next_key, rcon}
 
-rounds_more : (w : List (List ℕ)) (s : List ℕ) (t : ℕ) → rounds w s (suc t) ≡ round (rounds w s t) (get_or w (suc t) [])
+pub rounds_by_fold : (w : List (List ℕ)) (s : List ℕ) (t : ℕ) → t < length w → fold round s (take t (drop 1 w)) ≡ rounds w s t
 unfolding rounds
-rounds_more w s t = refl
-
--- the state r after round t, which s was before it
-pub after_round : (w : List (List ℕ)) (start s r : List ℕ) (t : ℕ) → 1 ≤ t → s ≡ rounds w start (t - 1) → r ≡ round s (get_or w t []) → r ≡ rounds w start (t + 1 - 1)
-after_round w start s r t h before step =
-    let here : suc (t - 1) ≡ t = omega arith in
-    let there : t ≡ t + 1 - 1 = omega arith in
-    step ∙ ap (λ x. round x (get_or w t [])) before ∙ ap (λ n. round (rounds w start (t - 1)) (get_or w n [])) (sym here)
-    ∙ sym (rounds_more w start (t - 1)) ∙ ap (rounds w start) (here ∙ there)
+rounds_by_fold w s zero h = refl
+rounds_by_fold w s (suc t) h =
+    let less : t < length (drop 1 w) = simp length-drop (omega arith) in
+    let one_more : 1 + t ≡ suc t = omega arith in
+    let key : get_or (drop 1 w) t [] ≡ get_or w (suc t) [] = get_or-drop 1 w t [] ∙ ap (λ n. get_or w n []) one_more in
+    ap (λ n. fold round s (take n (drop 1 w))) (sym (add-one t)) ∙ fold_more round s (drop 1 w) t [] less
+    ∙ ap (λ r. round r (get_or (drop 1 w) t [])) (rounds_by_fold w s t (omega arith)) ∙ ap (round (rounds w s t)) key
 
 pub key_more : (key : List ℕ) (t : ℕ) → round_key key (t + 1) ≡ next_key (round_key key t) (rcon t)
 unfolding round_key

@@ -49,6 +49,10 @@ add_round_key s k = xors s k
 abbrev pub word : List ℕ → ℕ → List ℕ
 word k i = slice_index k (4 * i) ∷ slice_index k (4 * i + 1) ∷ slice_index k (4 * i + 2) ∷ slice_index k (4 * i + 3) ∷ []
 
+-- the bytes of four words, one word behind the other
+abbrev pub joined : List (List ℕ) → List ℕ
+joined ws = map (λ i. slice_index (slice_index_or ws (i / 4) []) (i % 4)) (range_with_len 0 16)
+
 abbrev pub rot_word : List ℕ → List ℕ
 rot_word w = slice_index w 1 ∷ slice_index w 2 ∷ slice_index w 3 ∷ slice_index w 0 ∷ []
 

@@ -1,17 +1,19 @@
 // AES-128 under a key whose round keys stand ready.
 ghost use Rattle.std.specs.Prelude.{◌≡◌};
-ghost use Rattle.aes.specs.Cipher.{key_expansion, cipher};
+ghost use Rattle.aes.specs.Cipher.{next_key, key_expansion, cipher};
+ghost use Rattle.aes.specs.Field.{xtime};
 ghost use Rattle.aes.specs.Laws.{Inverses};
 
-use super::blocks::xor;
+use super::blocks::{Block, xor};
 use super::bytes::double;
 use super::expansion::next_key;
 use super::rounds::{last_round, round};
+use std::array;
 
 /// The round keys of a key.
 #[derive(Clone, Copy)]
 pub struct Aes128 {
-    keys: [[u8; 16]; 11],
+    keys: [Block; 11],
 }
 
 impl Aes128 {
@@ -20,27 +22,29 @@ impl Aes128 {
         ensures keys { result.keys ≡ key_expansion key.now }
         ensures inverses { Inverses }
     {
-        let mut last = *key;
-        let mut keys = [last; 11];
+        let mut next = *key;
         let mut rcon = 1;
-        for t in 0..10 {
-            let next = next_key(last, rcon);
-            keys[t + 1] = next;
-            last = next;
-            rcon = double(rcon);
-        }
+        let keys = array::from_fn(
+            |_| -> Block
+                ensures this { result ≡ next.entry }
+                ensures next { next.exit ≡ next_key next.entry rcon.entry }
+                ensures rcon { rcon.exit ≡ xtime rcon.entry }
+            {
+                let this = next;
+                next = next_key(&this, rcon);
+                rcon = double(rcon);
+                this
+            },
+        );
         Aes128 { keys }
     }
 
     /// FIPS 197, Cipher.
-    pub fn encrypt(&self, block: [u8; 16]) -> [u8; 16]
+    pub fn encrypt(&self, block: Block) -> Block
         ensures { result ≡ cipher self.now.keys block }
     {
-        let mut s = xor(block, &self.keys[0]);
-        for t in 1..10 {
-            let next = round(s, &self.keys[t]);
-            s = next;
-        }
-        last_round(s, &self.keys[10])
+        let keys = &self.keys[..];
+        let s = keys[1..10].iter().fold(xor(block, &keys[0]), round);
+        last_round(s, &keys[10])
     }
 }

@@ -11,6 +11,7 @@ mod rounds;
 mod states;
 mod subkeys;
 
+pub use blocks::Block;
 pub use bytes::double;
 pub use ciphers::Aes128;
 pub use macs::CmacKey;

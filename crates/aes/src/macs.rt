@@ -1,21 +1,22 @@
 // The tags of AES-CMAC (RFC 4493): of a message at once, and of one that comes in parts.
-ghost use Rattle.std.specs.Prelude.{◌≡◌, ℕ, ◌+◌, ◌<◌, ◌≤◌, List, [], ◌++◌, length, ◌==◌};
+ghost use Rattle.std.specs.Prelude.{◌≡◌, ℕ, ◌+◌, ◌<◌, ◌≤◌, List, length, ◌==◌};
 ghost use Rattle.aes.specs.Cipher.{cipher};
 ghost use Rattle.aes.specs.Cmac.{cmac, cmac_from, m_last};
-ghost use Rattle.aes.specs.Tags.{tag_under, tag_after};
+ghost use Rattle.aes.specs.Tags.{tag_under, tag_after, TakesIn};
 
-use super::blocks::{load, xor};
-use super::chains::{chain_blocks, pad};
+use super::blocks::{Block, xor};
+use super::chains::{before_last, chain_blocks, pad};
 use super::ciphers::Aes128;
 use super::states::Cmac;
 use super::subkeys::double_block;
+use streams::Stream;
 
 /// A key with its round keys and its subkeys ready.
 #[derive(Clone, Copy)]
 pub struct CmacKey {
     aes: Aes128,
-    k1: [u8; 16],
-    k2: [u8; 16],
+    k1: Block,
+    k2: Block,
 }
 
 impl CmacKey {
@@ -25,7 +26,7 @@ impl CmacKey {
     {
         let aes = Aes128::new(key);
         // L := AES-128(K, const_Zero)
-        let l = chain_blocks(&aes, [0; 16], &[0; 16]);
+        let l = chain_blocks(&aes, [0; 16], &[[0; 16]]);
         let k1 = double_block(l);
         let k2 = double_block(k1);
         CmacKey { aes, k1, k2 }
@@ -47,59 +48,59 @@ impl CmacKey {
     pub fn tag(&self, bytes: &[u8]) -> [u8; 16]
         ensures { result ≡ tag_under self.now bytes.now }
     {
-        let whole = bytes.len().saturating_sub(1) / 16 * 16;
-        let x = chain_blocks(&self.aes, [0; 16], &bytes[0..whole]);
-        self.close(x, &bytes[whole..])
+        let (blocks, last) = before_last(bytes);
+        let x = chain_blocks(&self.aes, [0; 16], blocks);
+        self.close(x, last)
     }
 
     // The tag from X on, where at most one block is left.
-    fn close(&self, x: [u8; 16], left: &[u8]) -> [u8; 16]
+    fn close(&self, x: Block, left: &[u8]) -> [u8; 16]
         requires { length left.now ≤ 16 }
         ensures { result ≡ cmac_from (cipher self.now.aes.keys) self.now.k1 self.now.k2 x left.now }
     {
         let last = self.last_block(left);
-        chain_blocks(&self.aes, x, &last)
+        chain_blocks(&self.aes, x, &[last])
     }
 
     // M_last, where M_n is the block.
-    fn last_block(&self, block: &[u8]) -> [u8; 16]
+    fn last_block(&self, block: &[u8]) -> Block
         requires { length block.now ≤ 16 }
         ensures { result ≡ m_last self.now.k1 self.now.k2 (length block.now == 16) block.now }
     {
-        if block.len() == 16 {
-            xor(load(block), &self.k1)
-        } else {
-            xor(pad(block), &self.k2)
+        match block.first_chunk() {
+            Some(whole) => xor(*whole, &self.k1),
+            None => xor(pad(block), &self.k2),
         }
     }
 }
 
-impl Cmac<'_> {
-    /// Takes in more bytes of the message.
-    pub fn update(&mut self, bytes: &[u8])
-        ensures { (rest : List ℕ) → tag_after self.new rest ≡ tag_after self.old (bytes.now ++ rest) }
-    {
+impl Stream for Cmac<'_> {
+    type Output = [u8; 16];
+
+    ghost after = { tag_after };
+
+    fn update(&mut self, bytes: &[u8]) {
         let room = 16 - self.fill;
         if bytes.len() <= room {
             self.hold(bytes);
         } else {
-            self.hold(&bytes[0..room]);
-            self.pass(&bytes[room..]);
+            let (front, behind) = bytes.split_at(room);
+            self.hold(front);
+            self.pass(behind);
         }
     }
 
-    /// The tag of all the bytes that were taken in.
-    pub fn finish(self) -> [u8; 16]
-        ensures { result ≡ tag_after self.entry [] }
-    {
-        self.key.close(self.x, &self.buf[0..self.fill])
+    fn finish(self) -> [u8; 16] {
+        self.key.close(self.x, &self.buf[..self.fill])
     }
+}
 
+impl Cmac<'_> {
     // Holds bytes for which there is room.
     fn hold(&mut self, bytes: &[u8])
         requires { self.old.fill + length bytes.now ≤ 16 }
         ensures held { self.new.fill ≡ self.old.fill + length bytes.now }
-        ensures more { (rest : List ℕ) → tag_after self.new rest ≡ tag_after self.old (bytes.now ++ rest) }
+        ensures more { TakesIn self.old bytes.now self.new }
     {
         let end = self.fill + bytes.len();
         self.buf[self.fill..end].copy_from_slice(bytes);
@@ -109,13 +110,12 @@ impl Cmac<'_> {
     // Takes in bytes behind a full block, and holds at least one of them.
     fn pass(&mut self, bytes: &[u8])
         requires { (self.old.fill ≡ 16) × (0 < length bytes.now) }
-        ensures { (rest : List ℕ) → tag_after self.new rest ≡ tag_after self.old (bytes.now ++ rest) }
+        ensures { TakesIn self.old bytes.now self.new }
     {
-        let whole = (bytes.len() - 1) / 16 * 16;
-        let x = chain_blocks(&self.key.aes, self.x, &self.buf);
-        let next = chain_blocks(&self.key.aes, x, &bytes[0..whole]);
-        self.x = next;
+        let x = chain_blocks(&self.key.aes, self.x, &[self.buf]);
+        let (blocks, last) = before_last(bytes);
+        self.x = chain_blocks(&self.key.aes, x, blocks);
         self.fill = 0;
-        self.hold(&bytes[whole..]);
+        self.hold(last);
     }
 }

@@ -1,15 +1,17 @@
 // What the tag of a message in progress is made from: X, and the last bytes so far, of which a full block is held back
-// until more come, since the last block is treated apart.
+// until more come, since the last block is treated apart. The struct stands apart from its methods, since their contracts
+// cite definitions that name it, and a file may not hold both those and a ghost field.
 ghost use Rattle.std.specs.Prelude.{◌≤◌};
 
+use super::blocks::Block;
 use super::macs::CmacKey;
 
 /// A message in progress, under a key.
 #[derive(Clone, Copy)]
 pub struct Cmac<'k> {
     pub(crate) key: &'k CmacKey,
-    pub(crate) x: [u8; 16],
-    pub(crate) buf: [u8; 16],
+    pub(crate) x: Block,
+    pub(crate) buf: Block,
     pub(crate) fill: usize,
     ghost fits: { fill ≤ 16 },
 }

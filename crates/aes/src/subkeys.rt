@@ -2,9 +2,10 @@
 ghost use Rattle.std.specs.Prelude.{◌≡◌};
 ghost use Rattle.aes.specs.Cmac.{moved_left, shift_left, doubled};
 
-use super::blocks::xor;
+use super::blocks::{Block, xor};
+use std::array;
 
-const CONST_RB: [u8; 16] = [0, 0, 0, 0, 0, 0, 0, 0, 0, 0, 0, 0, 0, 0, 0, 0x87];
+const CONST_RB: Block = [0, 0, 0, 0, 0, 0, 0, 0, 0, 0, 0, 0, 0, 0, 0, 0x87];
 
 fn move_left(byte: u8, next: u8) -> u8
     ensures { result ≡ moved_left byte next }
@@ -12,20 +13,15 @@ fn move_left(byte: u8, next: u8) -> u8
     (byte << 1) | (next >> 7)
 }
 
-fn shift_left(block: [u8; 16]) -> [u8; 16]
+fn shift_left(block: Block) -> Block
     ensures { result ≡ shift_left block }
 {
-    let mut r = [0; 16];
-    for i in 0..15 {
-        r[i] = move_left(block[i], block[i + 1]);
-    }
-    r[15] = move_left(block[15], 0);
-    r
+    array::from_fn(|i| move_left(block[i], block.get(i + 1).copied().unwrap_or(0)))
 }
 
 /// RFC 4493, the step of Generate_Subkey: a shift to the left by one bit, and where the top bit was set the sum with
 /// const_Rb.
-pub fn double_block(block: [u8; 16]) -> [u8; 16]
+pub fn double_block(block: Block) -> Block
     ensures { result ≡ doubled block }
 {
     let shifted = shift_left(block);

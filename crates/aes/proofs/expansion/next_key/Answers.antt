@@ -6,16 +6,13 @@ pub returns : goal.returns
 unfolding xors next_key
 returns c =
     simp (
-      c.xor_words-w3.ensures,
-      c.xor_words-w2.ensures,
-      c.xor_words-w1.ensures,
-      c.xor_words-w0.ensures,
-      c.xor_words-temp.ensures,
+      c.joined.ensures,
+      c.xor-w3.ensures,
+      c.xor-w2.ensures,
+      c.xor-w1.ensures,
+      c.xor-w0.ensures,
+      c.xor-temp.ensures,
       c.sub_word.ensures,
       c.rot_word.ensures,
-      c.word.ensures,
-      c.word-2.ensures,
-      c.word-3.ensures,
-      c.word-4.ensures,
-      c.word-5.ensures,
+      c.words.ensures,
     )

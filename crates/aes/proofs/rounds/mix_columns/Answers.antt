@@ -1,7 +1,17 @@
 -- The four columns one behind the other.
-use Rattle.aes.specs.Cipher.{mix_column, mix_columns}
+use Rattle.std.proofs.Common.{◌≡◌, ℕ, List, [], ◌∷◌, map, get_or, refl, ap, ◌∙◌, rules}
+use Rattle.aes.specs.Cipher.{joined, mix_column, mix_columns, word}
+use Rattle.aes.proofs.Made.{mapped_same}
 use Rattle.aes.proofs.rounds.mix_columns.Goals as goal
 
-pub returns : goal.returns
+abbrev mixed : List ℕ → List ℕ
+mixed column = mix_column (get_or column 0 0) (get_or column 1 0) (get_or column 2 0) (get_or column 3 0)
+
+all_mixed : (s : List ℕ) → joined (map mixed (word s 0 ∷ word s 1 ∷ word s 2 ∷ word s 3 ∷ [])) ≡ mix_columns s
 unfolding mix_column mix_columns
-returns c = simp (c.mix_column.ensures, c.mix_column-2.ensures, c.mix_column-3.ensures, c.mix_column-4.ensures)
+all_mixed s = refl
+
+pub returns : goal.returns
+returns c =
+    let columns = mapped_same _ mixed [] [] _ _ _ 4 (λ p x y q k. search rules) (simp c.words.ensures) c.map.ensures.items in
+    c.joined.ensures ∙ ap joined (columns ∙ ap (map mixed) c.words.ensures) ∙ all_mixed c.args.s
