@@ -1,7 +1,6 @@
 -- The lemmas of the crate, and those that the crates above cite.
+mod Arrays
 mod Cuts
-mod Every
-mod Made
-mod Steps
 mod SboxTable
+mod Steps
 pub mod Sums

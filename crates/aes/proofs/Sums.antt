@@ -1,4 +1,4 @@
--- Sums of lists of bytes, and a word by its bytes.
+-- Sums of lists of bytes.
 use Rattle.std.proofs.Common.{◌≡◌, ℕ, zero, suc, ◌<◌, List, [], ◌∷◌, map, length, get_or, sym, refl, ap, ◌∙◌, arith}
 use lib.Bits.{bit_xor, xor_comm}
 use Rattle.std.specs.List.{range_with_len}
@@ -31,7 +31,3 @@ xors_places a b n l m =
     let same : length a ≡ length b = l ∙ sym m in
     sym (fill_by_all (λ k. bit_xor (get_or a k 0) (get_or b k 0)) (xors a b) n 0 (length-xors a b same ∙ l)
     (λ k h. get_or-xors a b k same (omega arith)))
-
--- a list of four is its elements
-pub four : (a : List ℕ) → length a ≡ 4 → a ≡ get_or a 0 0 ∷ get_or a 1 0 ∷ get_or a 2 0 ∷ get_or a 3 0 ∷ []
-four a l = fill_by_all (λ k. get_or a k 0) a 4 0 l (λ k h. refl)

@@ -1,5 +1,5 @@
 -- RFC 4493: the subkeys and the tag of AES-CMAC. The tag is stated over any encryption E of blocks and any subkeys.
-use Rattle.std.specs.Prelude.{ℕ, zero, suc, ◌+◌, ◌-◌, ◌*◌, ◌/◌, ◌%◌, Bool, false, cond, List, [], ◌∷◌, ◌++◌, map, length, take, drop, replicate, ◌==◌, bit_or, nat_lt, slice_index}
+use Rattle.std.specs.Prelude.{ℕ, zero, suc, ◌+◌, ◌-◌, ◌*◌, ◌/◌, ◌%◌, Bool, false, if◌then◌else◌, List, [], ◌∷◌, ◌++◌, map, length, take, drop, replicate, ◌==◌, bit_or, nat_lt, slice_index}
 use Rattle.std.specs.List.{range_with_len}
 use Rattle.aes.specs.Cipher.{xors, aes128}
 
@@ -19,7 +19,7 @@ const_rb = replicate 15 0 ++ 0x87 ∷ []
 
 -- 2.3, steps 2 and 3: b << 1, and where the most significant bit of b is 1 the sum with const_Rb
 abbrev pub doubled : List ℕ → List ℕ
-doubled b = cond (nat_lt (slice_index b 0) 128) (shift_left b) (xors (shift_left b) const_rb)
+doubled b = let shifted = shift_left b in if nat_lt (slice_index b 0) 128 then shifted else xors shifted const_rb
 
 -- 2.3, Generate_Subkey
 abbrev pub subkey1 : (List ℕ → List ℕ) → List ℕ
@@ -30,10 +30,10 @@ subkey2 E = doubled (subkey1 E)
 
 -- 2.4, steps 2 and 3: n, the number of blocks of a message of this length, and the flag
 unfoldable pub blocks : ℕ → ℕ
-blocks len = let n = (len + 15) / 16 in cond (n == 0) 1 n
+blocks len = let n = (len + 15) / 16 in if n == 0 then 1 else n
 
 unfoldable pub flag : ℕ → Bool
-flag len = let n = (len + 15) / 16 in cond (n == 0) false (len % 16 == 0)
+flag len = let n = (len + 15) / 16 in if n == 0 then false else len % 16 == 0
 
 -- 2.4, the block M_(i + 1)
 unfoldable pub block_at : List ℕ → ℕ → List ℕ
@@ -45,7 +45,7 @@ padding x = x ++ 0x80 ∷ replicate (15 - length x) 0
 
 -- 2.4, step 4: M_last from M_n
 abbrev pub m_last : List ℕ → List ℕ → Bool → List ℕ → List ℕ
-m_last k1 k2 whole block = cond whole (xors block k1) (xors (padding block) k2)
+m_last k1 k2 whole block = if whole then xors block k1 else xors (padding block) k2
 
 -- 2.4, step 6, the loop: what X is after i blocks
 unfoldable pub chained : (List ℕ → List ℕ) → List ℕ → List ℕ → ℕ → List ℕ

@@ -1,9 +1,9 @@
 -- FIPS 197, sections 4 and 5.1.1: bytes as elements of the field with 256 elements, and the S-box.
-use Rattle.std.specs.Prelude.{ℕ, zero, suc, ◌+◌, ◌*◌, ◌/◌, ◌%◌, ◌^◌, cond, bit_xor, nat_lt}
+use Rattle.std.specs.Prelude.{ℕ, zero, suc, ◌+◌, ◌*◌, ◌/◌, ◌%◌, ◌^◌, if◌then◌else◌, bit_xor, nat_lt}
 
 -- 4.2, xtime(b), the product {02} b: a shift to the left, and where the top bit was set the sum with {1b}
 abbrev pub xtime : ℕ → ℕ
-xtime b = cond (nat_lt b 128) (b * 2 % 256) (bit_xor (b * 2 % 256) 0x1b)
+xtime b = let shifted = b * 2 % 256 in if nat_lt b 128 then shifted else bit_xor shifted 0x1b
 
 -- 4.2, the product of a and b by repeated xtime: the sum of {02}^i a over those of the low n bits i of b that are set
 unfoldable pub times : ℕ → ℕ → ℕ → ℕ

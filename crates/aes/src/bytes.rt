@@ -40,5 +40,5 @@ fn reduction(b: u8) -> u8
 pub(crate) fn sub(b: u8) -> u8
     ensures { result ≡ sbox b }
 {
-    SBOX[b as usize]
+    SBOX[usize::from(b)]
 }

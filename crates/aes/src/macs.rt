@@ -67,9 +67,9 @@ impl CmacKey {
         requires { length block.now ≤ 16 }
         ensures { result ≡ m_last self.now.k1 self.now.k2 (length block.now == 16) block.now }
     {
-        match block.first_chunk() {
-            Some(whole) => xor(*whole, &self.k1),
-            None => xor(pad(block), &self.k2),
+        match Block::try_from(block) {
+            Ok(whole) => xor(whole, &self.k1),
+            Err(_) => xor(pad(block), &self.k2),
         }
     }
 }

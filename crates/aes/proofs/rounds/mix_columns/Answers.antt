@@ -1,7 +1,7 @@
 -- The four columns one behind the other.
 use Rattle.std.proofs.Common.{◌≡◌, ℕ, List, [], ◌∷◌, map, get_or, refl, ap, ◌∙◌, rules}
 use Rattle.aes.specs.Cipher.{joined, mix_column, mix_columns, word}
-use Rattle.aes.proofs.Made.{mapped_same}
+use Rattle.aes.proofs.Arrays.{map_by}
 use Rattle.aes.proofs.rounds.mix_columns.Goals as goal
 
 abbrev mixed : List ℕ → List ℕ
@@ -13,5 +13,5 @@ all_mixed s = refl
 
 pub returns : goal.returns
 returns c =
-    let columns = mapped_same _ mixed [] [] _ _ _ 4 (λ p x y q k. search rules) (simp c.words.ensures) c.map.ensures.items in
+    let columns = map_by _ mixed [] [] _ _ _ 4 (λ p x y q k. search rules) (simp c.words.ensures) c.map.ensures.items in
     c.joined.ensures ∙ ap joined (columns ∙ ap (map mixed) c.words.ensures) ∙ all_mixed c.args.s

@@ -19,20 +19,20 @@ module _ {F B : Type 0} (g : Mut F (ℕ × Unit {0}) B) (h : ℕ → B) (J : ℕ
   each d ys (suc n) i j (suc k) p now calls less e =
       each d ys n (i + 1) j k calls.0 (step i p calls.1 calls.0 now calls.3).1 calls.4 (omega arith) (omega arith)
 
-  pub made : (d : B) (f : F) (ys : List B) (n : ℕ) → J 0 f → IsFromFnResult g f ys n → ys ≡ map h (range_with_len 0 n)
-  made d f ys n now all = fill_by_all h ys n d all.long (λ k less. each d ys n 0 k k f now all.each less (omega arith))
+  pub from_fn_along : (d : B) (f : F) (ys : List B) (n : ℕ) → J 0 f → IsFromFnResult g f ys n → ys ≡ map h (range_with_len 0 n)
+  from_fn_along d f ys n now all = fill_by_all h ys n d all.long (λ k less. each d ys n 0 k k f now all.each less (omega arith))
 
 -- a closure that changes nothing
-pub made_same : {F B : Type 0} (g : Mut F (ℕ × Unit {0}) B) (h : ℕ → B) (d : B) (f : F) (ys : List B) (n : ℕ)
+pub from_fn_same : {F B : Type 0} (g : Mut F (ℕ × Unit {0}) B) (h : ℕ → B) (d : B) (f : F) (ys : List B) (n : ℕ)
     → ((i : ℕ) (y : B) (q : F) → Called g f (i, tt) y q → (y ≡ h i) × (q ≡ f))
     → IsFromFnResult g f ys n → ys ≡ map h (range_with_len 0 n)
-made_same g h d f ys n step all =
-    made g h (λ i p. p ≡ f) (λ i p y q same called. step i y q (subst (λ k. Called g k (i, tt) y q) same called)) d f ys n refl all
+from_fn_same g h d f ys n step all =
+    from_fn_along g h (λ i p. p ≡ f) (λ i p y q same called. step i y q (subst (λ k. Called g k (i, tt) y q) same called)) d f ys n refl all
 
-pub mapped_same : {F A B : Type 0} (g : Mut F (A × Unit {0}) B) (h : A → B) (d : A) (e : B) (f : F) (xs : List A) (ys : List B) (n : ℕ)
+pub map_by : {F A B : Type 0} (g : Mut F (A × Unit {0}) B) (h : A → B) (d : A) (e : B) (f : F) (xs : List A) (ys : List B) (n : ℕ)
     → ((p : F) (x : A) (y : B) (q : F) → Called g p (x, tt) y q → y ≡ h x)
     → length xs ≡ n → IsMapOf g f xs ys n → ys ≡ map h xs
-mapped_same g h d e f xs ys n step l all =
+map_by g h d e f xs ys n step l all =
     ext_get_or e ys (map h xs) (all.long ∙ sym l ∙ sym (length-map xs h)) (λ k less.
     let within : k < n = omega (arith, all.long) in
     let here : k < length xs = omega arith in
