@@ -1,11 +1,10 @@
 -- The chain of blocks and the tag, cut behind whole blocks.
-use Rattle.std.proofs.Common.{◌≡◌, ℕ, zero, suc, ◌+◌, ◌-◌, ◌*◌, ◌/◌, ◌%◌, ◌<◌, ◌≤◌, false, eqb, List, ◌∷◌, ◌++◌, length, take, drop, sym, refl, ap, ap₂, ◌∙◌, arith}
+use Rattle.std.proofs.Common.{◌≡◌, ℕ, zero, suc, ◌+◌, ◌-◌, ◌*◌, ◌/◌, ◌%◌, ◌<◌, ◌≤◌, eqb, List, ◌∷◌, ◌++◌, length, take, drop, sym, refl, ap, ap₂, ◌∙◌, arith}
 use borrow.Rule.Slice.PartMut.{put_mid}
 use Rattle.std.specs.List.{fold}
 use Rattle.std.specs.Simd.{first_chunks}
 use Rattle.std.proofs.lemmas.List.{append_assoc, length-append, length-drop, length-take-le, take_all, take_at, take-append-le, take-append-drop, drop_at, drop-append-le, drop-drop}
 use Rattle.std.proofs.lemmas.Slice.{take-put_mid}
-use Rattle.std.proofs.lemmas.Bool.{ne_eqb}
 use Rattle.std.proofs.lemmas.Bool.Decides.{nat_tests}
 use Rattle.aes.specs.Cipher.{xors}
 use Rattle.aes.proofs.Sums.{xors_comm}
@@ -19,11 +18,11 @@ block_behind m i = let places : 16 * suc i ≡ 16 + 16 * i = omega arith in ap (
 -- how many blocks a message that is not empty has, and its flag
 blocks_of : (len : ℕ) → 0 < len → blocks len ≡ (len + 15) / 16
 unfolding blocks
-blocks_of len h = let some : eqb ((len + 15) / 16) 0 ≡ false = ne_eqb _ _ (λ e. omega arith) in rw some refl
+blocks_of len h = grind (arith, nat_tests)
 
 flag_of : (len : ℕ) → 0 < len → flag len ≡ eqb (len % 16) 0
 unfolding flag
-flag_of len h = let some : eqb ((len + 15) / 16) 0 ≡ false = ne_eqb _ _ (λ e. omega arith) in rw some refl
+flag_of len h = grind (arith, nat_tests)
 
 -- a message of at most one block has one block, and its flag says whether that is full
 one : (len : ℕ) → len ≤ 16 → blocks len ≡ 1

@@ -80,12 +80,9 @@ impl Stream for Cmac<'_> {
     ghost after = { tag_after };
 
     fn update(&mut self, bytes: &[u8]) {
-        let room = 16 - self.fill;
-        if bytes.len() <= room {
-            self.hold(bytes);
-        } else {
-            let (front, behind) = bytes.split_at(room);
-            self.hold(front);
+        let (front, behind) = bytes.split_at(bytes.len().min(16 - self.fill));
+        self.hold(front);
+        if !behind.is_empty() {
             self.pass(behind);
         }
     }
