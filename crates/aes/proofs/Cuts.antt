@@ -13,7 +13,9 @@ use Rattle.aes.specs.Cmac.{blocks, flag, block_at, m_last, chained, cmac_from}
 -- a block behind the first
 block_behind : (m : List ℕ) (i : ℕ) → block_at m (suc i) ≡ block_at (drop 16 m) i
 unfolding block_at
-block_behind m i = let places : 16 * suc i ≡ 16 + 16 * i = omega arith in ap (λ n. take 16 (drop n m)) places ∙ ap (take 16) (sym (drop-drop (16 * i) 16 m))
+block_behind m i =
+    let places : 16 * suc i ≡ 16 + 16 * i = omega arith in
+    ap (λ n. take 16 (drop n m)) places ∙ ap (take 16) (sym (drop-drop (16 * i) 16 m))
 
 -- how many blocks a message that is not empty has, and its flag
 blocks_of : (len : ℕ) → 0 < len → blocks len ≡ (len + 15) / 16
