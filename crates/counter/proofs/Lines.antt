@@ -52,8 +52,8 @@ GoesOn values s = (s.kind ≡ kind_number Continuing → get_or values s.number 
 module _ (rule : Stated → List ℕ) (seat : ℕ) where
   certificate_goes_on : (values : List ℕ) (kind : Kind) (number new : ℕ) (message : List ℕ) → Permitted kind (get_or values number 0) new → GoesOn values (certificate_for seat values kind number new message)
   unfolding GoesOn
-  certificate_goes_on values Continuing number new message allowed = (λ e. omega arith, λ e. absurd (omega arith))
-  certificate_goes_on values Independent number new message allowed = (λ e. absurd (omega arith), λ e. allowed)
+  certificate_goes_on values Continuing number new message allowed = grind (arith, common_steps)
+  certificate_goes_on values Independent number new message allowed = grind (arith, common_steps)
 
   goes_on_from_below : (values : List ℕ) (c : Call) (s : Stated) → GoesOn (called rule seat values c).1 s → GoesOn values s
   unfolding GoesOn

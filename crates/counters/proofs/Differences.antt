@@ -1,8 +1,8 @@
 -- Bytes compared by gathering their differences.
 use Rattle.std.proofs.lemmas.Grind.{common_steps}
-use Rattle.std.proofs.Common.{◌≡◌, ℕ, suc, ◌+◌, ◌<◌, ◌≤◌, Bool, true, false, ◌&&◌, eqb, List, [], ◌∷◌, length, get_or, drop, sym, refl, ap, ◌∙◌, ⊎_elim, arith}
+use Rattle.std.proofs.Common.{◌≡◌, ℕ, ◌+◌, ◌<◌, Bool, true, false, ◌&&◌, eqb, List, [], ◌∷◌, length, get_or, drop, sym, refl, ap, ◌∙◌, ⊎_elim, arith}
 use lib.Bits.{bit_or, bit_xor, or_add_and, and_le_l, and_le_r, xor_self, xor_assoc, xor_zero_l, xor_zero_r}
-use Rattle.std.proofs.lemmas.List.{at_drop_more, at_drop_all}
+use Rattle.std.proofs.lemmas.List.{at_drop_more}
 use Rattle.std.proofs.lemmas.Bool.{eq-eqb, ne_eqb, and_from, and_left, and_right, cases_eq}
 use Rattle.std.specs.Str.{bytes_eq}
 
@@ -46,12 +46,9 @@ same_goes_on d xs ys i inside within =
     ∙ and_assoc (eqb d 0) (eqb (get_or xs i 0) (get_or ys i 0)) (bytes_eq (drop (i + 1) xs) (drop (i + 1) ys))
     ∙ ap (λ t. eqb d 0 && t) (sym (at_drop_more (λ rest. bytes_eq rest (drop i ys)) xs i 0 inside ∙ at_drop_more (λ rest. bytes_eq (get_or xs i 0 ∷ drop (i + 1) xs) rest) ys i 0 within))
 
-pub same_at_the_end : (d : ℕ) (xs ys : List ℕ) (i : ℕ) → length xs ≤ i → length ys ≤ i → same_so_far d xs ys i ≡ eqb d 0
-same_at_the_end d xs ys i all whole = grind (arith, common_steps)
-
 -- bytes of different lengths are not the same
 pub lengths_differ : (xs ys : List ℕ) → (length xs ≡ length ys → ⊥) → bytes_eq xs ys ≡ false
 lengths_differ [] [] differ = absurd (differ refl)
 lengths_differ [] (y ∷ ys) differ = refl
 lengths_differ (x ∷ xs) [] differ = refl
-lengths_differ (x ∷ xs) (y ∷ ys) differ = and_right (eqb x y) (bytes_eq xs ys) (lengths_differ xs ys (λ e. differ (ap suc e)))
+lengths_differ (x ∷ xs) (y ∷ ys) differ = grind (arith, common_steps, lengths_differ xs ys)

@@ -1,5 +1,6 @@
 -- A glyph's place among the rows, and what setting a row there leaves.
-use Rattle.std.proofs.Common.{◌≡◌, ℕ, zero, suc, ◌+◌, ◌<◌, ◌≤◌, true, cond, eqb, ltb, List, [], ◌∷◌, length, get_or, set, is_some, Some, None, Result, Ok, Err, MatchResult, sym, refl, ap, ◌∙◌, subst, ⊎_elim, arith}
+use Rattle.std.proofs.lemmas.Grind.{common_steps}
+use Rattle.std.proofs.Common.{◌≡◌, ℕ, zero, suc, ◌+◌, ◌<◌, ◌≤◌, true, cond, ltb, List, [], ◌∷◌, length, get_or, set, is_some, Some, None, Result, Ok, Err, MatchResult, sym, refl, ap, ◌∙◌, subst, ⊎_elim, arith}
 use Rattle.std.specs.List.{insert}
 use Rattle.std.specs.List.Sorted.{IsSearchInRange, IsBinarySearchResult, IsNonDecreasingBy}
 use Rattle.std.specs.Ordering.{nat_cmp, ordering_index}
@@ -45,7 +46,7 @@ module _ (row : GlyphRow) (rows : List GlyphRow) where
 -- the place by what stands before it and at it
 pub place_is : (rows : List GlyphRow) (glyph place : ℕ) → place ≤ length rows → ((k : ℕ) → k < place → (get_or rows k (new_row 0)).glyph < glyph) → (place < length rows → glyph ≤ (get_or rows place (new_row 0)).glyph) → place ≡ place_of rows glyph
 place_is [] glyph place within lower next = omega arith
-place_is (row ∷ rows) glyph zero within lower next = sym (place_front row rows glyph (next (omega arith)))
+place_is (row ∷ rows) glyph zero within lower next = grind (arith, common_steps)
 place_is (row ∷ rows) glyph (suc place) within lower next =
     ap suc (place_is rows glyph place (omega arith) (λ k less. lower (suc k) (omega arith)) (λ less. next (omega arith)))
     ∙ sym (place_lower row rows glyph (lower 0 (omega arith)))
@@ -55,15 +56,7 @@ place_is (row ∷ rows) glyph (suc place) within lower next =
 -- a row with the glyph, where it stands
 pub row_found : (rows : List GlyphRow) (glyph : ℕ) (d : GlyphRow) → place_of rows glyph < length rows → (get_or rows (place_of rows glyph) d).glyph ≡ glyph → row_of rows glyph ≡ Some (get_or rows (place_of rows glyph) d)
 row_found [] glyph d within same = absurd (omega arith)
-row_found (row ∷ rows) glyph d within same =
-    ⊎_elim
-    (λ here. rw (place_front row rows glyph (omega arith)) (row_first row rows glyph here))
-    (⊎_elim
-    (λ less.
-    let place = place_lower row rows glyph less in
-    rw (place, row_other row rows glyph (λ e. omega arith)) (row_found rows glyph d (omega arith) (rw place at same)))
-    (λ more. absurd (omega (arith, rw (place_front row rows glyph (omega arith)) at same))))
-    (cases_order row.glyph glyph)
+row_found (row ∷ rows) glyph d within same = grind (arith, common_steps, row_found rows glyph d)
 
 none_above : (rows : List GlyphRow) (low glyph : ℕ) → all_above low rows ≡ true → glyph ≤ low → row_of rows glyph ≡ None
 none_above [] low glyph above under = refl
@@ -90,30 +83,14 @@ row_missing (row ∷ rows) glyph d ordered missing =
 
 pub placed_over : (rows : List GlyphRow) (new d : GlyphRow) → place_of rows new.glyph < length rows → (get_or rows (place_of rows new.glyph) d).glyph ≡ new.glyph → placed rows new ≡ set rows (place_of rows new.glyph) new
 placed_over [] new d within same = absurd (omega arith)
-placed_over (row ∷ rows) new d within same =
-    ⊎_elim
-    (λ here. rw (place_front row rows new.glyph (omega arith)) (placed_same row rows new here))
-    (⊎_elim
-    (λ less.
-    let place = place_lower row rows new.glyph less in
-    rw (place, placed_lower row rows new less) (ap (λ xs. row ∷ xs) (placed_over rows new d (omega arith) (rw place at same))))
-    (λ more. absurd (omega (arith, rw (place_front row rows new.glyph (omega arith)) at same))))
-    (cases_order row.glyph new.glyph)
+placed_over (row ∷ rows) new d within same = grind (arith, common_steps, placed_over rows new d)
 
 pub placed_between : (rows : List GlyphRow) (new d : GlyphRow) → (place_of rows new.glyph < length rows → (get_or rows (place_of rows new.glyph) d).glyph ≡ new.glyph → ⊥) → placed rows new ≡ insert rows (place_of rows new.glyph) new
 placed_between [] new d missing = refl
-placed_between (row ∷ rows) new d missing =
-    ⊎_elim
-    (λ here. absurd (missing (rw (place_front row rows new.glyph (omega arith)) (omega arith)) (rw (place_front row rows new.glyph (omega arith)) here)))
-    (⊎_elim
-    (λ less.
-    let place = place_lower row rows new.glyph less in
-    rw (place, placed_lower row rows new less) (ap (λ xs. row ∷ xs) (placed_between rows new d (λ w e. missing (rw place (omega arith)) (rw place e)))))
-    (λ more. rw (place_front row rows new.glyph (omega arith)) (placed_higher row rows new more)))
-    (cases_order row.glyph new.glyph)
+placed_between (row ∷ rows) new d missing = grind (arith, common_steps, placed_between rows new d)
 
 above_placed : (rows : List GlyphRow) (new : GlyphRow) (low : ℕ) → all_above low rows ≡ true → low < new.glyph → all_above low (placed rows new) ≡ true
-above_placed [] new low above less = and_from _ _ (lt-ltb low new.glyph less) refl
+above_placed [] new low above less = grind (arith, common_steps)
 above_placed (row ∷ rows) new low above less =
     let both = and_parts (ltb low row.glyph) (all_above low rows) above in
     let first = lt-ltb low new.glyph less in
@@ -147,13 +124,7 @@ placed_ascends (row ∷ rows) new ordered =
 
 pub length-placed_new : (rows : List GlyphRow) (new : GlyphRow) → length (placed rows new) ≤ length rows + 1
 length-placed_new [] new = omega arith
-length-placed_new (row ∷ rows) new =
-    ⊎_elim
-    (λ here. rw (placed_same row rows new here) (omega arith))
-    (⊎_elim
-    (λ lower. rw (placed_lower row rows new lower) (omega (arith, length-placed_new rows new)))
-    (λ higher. rw (placed_higher row rows new higher) (omega arith)))
-    (cases_order row.glyph new.glyph)
+length-placed_new (row ∷ rows) new = grind (arith, common_steps, length-placed_new rows new)
 
 -- a glyph that has a row takes no other
 pub length-placed_known : (rows : List GlyphRow) (new : GlyphRow) → ascending rows ≡ true → is_some (row_of rows new.glyph) ≡ true → length (placed rows new) ≡ length rows
@@ -175,23 +146,11 @@ length-placed_known (row ∷ rows) new ordered known =
 
 pub row_after : (rows : List GlyphRow) (new : GlyphRow) → row_of (placed rows new) new.glyph ≡ Some new
 row_after [] new = row_first new [] new.glyph refl
-row_after (row ∷ rows) new =
-    ⊎_elim
-    (λ here. rw (placed_same row rows new here) (row_first new rows new.glyph refl))
-    (⊎_elim
-    (λ lower. rw (placed_lower row rows new lower) (row_other row (placed rows new) new.glyph (λ e. omega arith) ∙ row_after rows new))
-    (λ higher. rw (placed_higher row rows new higher) (row_first new (row ∷ rows) new.glyph refl)))
-    (cases_order row.glyph new.glyph)
+row_after (row ∷ rows) new = grind (arith, common_steps, row_after rows new)
 
 pub row_after_other : (rows : List GlyphRow) (new : GlyphRow) (glyph : ℕ) → (glyph ≡ new.glyph → ⊥) → row_of (placed rows new) glyph ≡ row_of rows glyph
-row_after_other [] new glyph other = row_other new [] glyph (λ e. other (sym e))
-row_after_other (row ∷ rows) new glyph other =
-    ⊎_elim
-    (λ here. rw (placed_same row rows new here) (row_other new rows glyph (λ e. other (sym e)) ∙ sym (row_other row rows glyph (λ e. other (sym e ∙ here)))))
-    (⊎_elim
-    (λ lower. rw (placed_lower row rows new lower) (ap (λ o. cond (eqb row.glyph glyph) (Some row) o) (row_after_other rows new glyph other)))
-    (λ higher. rw (placed_higher row rows new higher) (row_other new (row ∷ rows) glyph (λ e. other (sym e)))))
-    (cases_order row.glyph new.glyph)
+row_after_other [] new glyph other = grind (arith, common_steps)
+row_after_other (row ∷ rows) new glyph other = grind (arith, common_steps, row_after_other rows new glyph other)
 
 -- ---- what `find` answers
 
@@ -219,8 +178,8 @@ missing_at rows glyph place is ordered absent =
 
 above_each : (rows : List GlyphRow) (low k : ℕ) (d : GlyphRow) → all_above low rows ≡ true → k < length rows → low < (get_or rows k d).glyph
 above_each [] low k d above within = absurd (omega arith)
-above_each (row ∷ rows) low zero d above within = ltb-true low row.glyph (and_parts (ltb low row.glyph) (all_above low rows) above).0
-above_each (row ∷ rows) low (suc k) d above within = above_each rows low k d (and_parts (ltb low row.glyph) (all_above low rows) above).1 (omega arith)
+above_each (row ∷ rows) low zero d above within = grind (arith, common_steps)
+above_each (row ∷ rows) low (suc k) d above within = grind (arith, common_steps, above_each rows low k d)
 
 -- in rows that ascend a row further back has a higher glyph
 pub ascends : (rows : List GlyphRow) (i j : ℕ) (d : GlyphRow) → ascending rows ≡ true → i < j → j < length rows → (get_or rows i d).glyph < (get_or rows j d).glyph

@@ -1,4 +1,5 @@
 -- The laws of the glyph register.
+use Rattle.std.proofs.lemmas.Grind.{common_steps}
 use Rattle.std.proofs.Common.{◌≡◌, ℕ, ◌≤◌, Bool, true, false, cond, ltb, ◌⊎◌, List, length, is_some, Some, None, Option, refl, ap, ◌∙◌, ⊎_elim, arith}
 use Rattle.std.proofs.lemmas.Bool.{or_cases, ltb-true}
 use Rattle.terms.specs.declared.requests.Request.{Request}
@@ -11,7 +12,7 @@ use Rattle.registers.specs.declared.operations.Operation.TheVariants.{Set, Read}
 use Rattle.registers.specs.GlyphLaws.{Sets, Reads, GlyphLaws}
 use Rattle.registers.specs.Operations.{operation_of}
 use Rattle.registers.specs.Rows.{measure_of, with_measure, row_of, placed, ascending}
-use Rattle.registers.specs.Glyphs.{places, largest_measure, has_place, row_or_new, set_reply, read_reply, after_set, operation_reply, after_operation, glyph_reply, glyph_next}
+use Rattle.registers.specs.Glyphs.{places, has_place, row_or_new, set_reply, read_reply, after_set, operation_reply, after_operation, glyph_reply, glyph_next}
 use Rattle.registers.proofs.Places.{row_after, row_after_other, placed_ascends, length-placed_new, length-placed_known}
 use Rattle.registers.proofs.Sets.{set_glyph}
 
@@ -109,13 +110,13 @@ module _ (rows : List GlyphRow) (r : Request) where
 
   quiet_by : (o : Option Operation) → ((operation_reply rows r o).0 ≡ 0 → ⊥) → after_operation rows r o ≡ rows
   quiet_by None failed = refl
-  quiet_by (Some (Set measure)) failed = quiet_set rows measure r.key r.value failed
+  quiet_by (Some (Set measure)) failed = grind (arith, common_steps)
   quiet_by (Some (Read measure)) failed = refl
 
   valueless_by : (o : Option Operation) → Valueless (operation_reply rows r o)
   valueless_by None = λ _. refl
-  valueless_by (Some (Set measure)) = valueless_set (ltb largest_measure r.value) (has_place rows r.key) r.value
-  valueless_by (Some (Read measure)) = valueless_read measure (row_of rows r.key)
+  valueless_by (Some (Set measure)) = grind (arith, common_steps)
+  valueless_by (Some (Read measure)) = grind (arith, common_steps)
 
   other_by : (o : Option Operation) (other : ℕ) → (other ≡ r.key → ⊥) → row_of (after_operation rows r o) other ≡ row_of rows other
   other_by None other apart = refl

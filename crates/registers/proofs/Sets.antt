@@ -1,7 +1,7 @@
 -- A set of one number: the row that it makes, its answer and what it leaves.
+use Rattle.std.proofs.lemmas.Grind.{common_steps}
 use Rattle.std.proofs.Common.{arith}
-use Rattle.std.proofs.Common.{◌≡◌, ℕ, ◌≤◌, false, List, [], ◌∷◌, refl, ◌∙◌, ⊎_elim}
-use Rattle.std.proofs.lemmas.Bool.{cases_eq, eq-eqb, ne_eqb}
+use Rattle.std.proofs.Common.{◌≡◌, ℕ, ◌≤◌, false, List, [], ◌∷◌, refl, ◌∙◌}
 use Rattle.registers.specs.declared.glyph_rows.GlyphRow.{GlyphRow}
 use Rattle.registers.specs.declared.operations.Measure.{Measure}
 use Rattle.registers.specs.declared.operations.Measure.TheVariants.{Advance, Bearing}
@@ -15,11 +15,7 @@ measure_keeps_glyph Bearing value row = refl
 -- the row that is found has the glyph that was asked for
 row_or_new_glyph : (rows : List GlyphRow) (glyph : ℕ) → (row_or_new rows glyph).glyph ≡ glyph
 row_or_new_glyph [] glyph = refl
-row_or_new_glyph (row ∷ rows) glyph =
-    ⊎_elim
-    (λ same. rw (eq-eqb row.glyph glyph same) same)
-    (λ other. rw (ne_eqb row.glyph glyph other) (row_or_new_glyph rows glyph))
-    (cases_eq row.glyph glyph)
+row_or_new_glyph (row ∷ rows) glyph = grind (arith, common_steps, row_or_new_glyph rows glyph)
 
 pub set_glyph : (rows : List GlyphRow) (measure : Measure) (glyph value : ℕ) → (with_measure measure value (row_or_new rows glyph)).glyph ≡ glyph
 set_glyph rows measure glyph value = measure_keeps_glyph measure value (row_or_new rows glyph) ∙ row_or_new_glyph rows glyph

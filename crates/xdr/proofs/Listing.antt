@@ -1,7 +1,8 @@
 -- Counted lists are exact whatever their elements are, and what a loop over the elements needs to know.
-use Rattle.std.proofs.Common.{◌≡◌, ℕ, zero, suc, ◌+◌, ◌-◌, ◌*◌, ◌^◌, ◌<◌, ◌≤◌, List, [], ◌∷◌, ◌++◌, length, get_or, take, drop, Some, None, Option, sym, refl, ap, ◌∙◌, subst, append_assoc, suc-add, mul-zero, zero-add, mul-suc, arith, length-append}
+use Rattle.std.proofs.lemmas.Grind.{common_steps}
+use Rattle.std.proofs.Common.{◌≡◌, ℕ, zero, suc, ◌+◌, ◌-◌, ◌*◌, ◌^◌, ◌<◌, ◌≤◌, List, [], ◌∷◌, ◌++◌, length, get_or, take, drop, Some, None, Option, sym, refl, ap, ◌∙◌, subst, append_assoc, suc-add, mul-zero, mul-suc, arith, length-append}
 use Rattle.std.specs.List.{flat_map, AllByRecursion}
-use Rattle.std.proofs.lemmas.List.{take_at, drop_at, drop-drop}
+use Rattle.std.proofs.lemmas.List.{drop_at, drop-drop}
 use Rattle.xdr.specs.Layout.{counted}
 use Rattle.xdr.specs.Laws.{Bytes, Exact}
 use Rattle.xdr.specs.Reading.{and_then, times_from, list_from}
@@ -16,9 +17,7 @@ module _ {X : Type 0} {fits : X → Type 0} {write : X → List ℕ} {read : Lis
 
   times_only : (n : ℕ) (bytes : List ℕ) (xs : List X) (rest : List ℕ) → Bytes bytes → times_from read n bytes ≡ Some (xs, rest) → (bytes ≡ flat_map write xs ++ rest) × ((length xs ≡ n) × AllByRecursion fits xs)
   unfolding times_from
-  times_only zero bytes xs rest h e =
-      let same = answer_parts [] xs bytes rest e in
-      subst (λ (ys : List X). (bytes ≡ flat_map write ys ++ rest) × ((length ys ≡ 0) × AllByRecursion fits ys)) same.0 (same.1, (refl, tt))
+  times_only zero bytes xs rest h e = grind (arith, common_steps)
   times_only (suc n) bytes xs rest h e =
       let (p, first, e') = then_parts (read bytes) _ (xs, rest) e in
       let (q, others, e'') = then_parts (times_from read n p.1) _ (xs, rest) e' in
@@ -67,7 +66,7 @@ module _ {X : Type 0} (read : List ℕ → Option (X × List ℕ)) where
   -- some elements, and then some more
   pub times_add : (i j : ℕ) (bytes : List ℕ) → times_from read (i + j) bytes ≡ and_then (times_from read i bytes) (λ xs rest. and_then (times_from read j rest) (λ ys behind. Some (xs ++ ys, behind)))
   unfolding times_from
-  times_add zero j bytes = rw zero-add (sym (onward_none (times_from read j bytes)))
+  times_add zero j bytes = grind (arith, common_steps)
   times_add (suc i) j bytes = rw suc-add (first (times_add i j) (read bytes))
     where
       first : ((rest : List ℕ) → times_from read (i + j) rest ≡ onward (times_from read j) (times_from read i rest)) → (o : Option (X × List ℕ)) → and_then o (λ x rest. ahead x (times_from read (i + j) rest)) ≡ onward (times_from read j) (and_then o (λ x rest. ahead x (times_from read i rest)))
@@ -97,7 +96,7 @@ length-counted each width xs h = omega (arith, length-joined each width xs h)
 -- the element at a place, where each has the same width
 pub element_at : {X : Type 0} (each : X → List ℕ) (width : ℕ) (xs : List X) (i : ℕ) (d : X) → AllByRecursion (λ x. length (each x) ≡ width) xs → i < length xs → take width (drop (width * i) (flat_map each xs)) ≡ each (get_or xs i d)
 element_at each width [] i d h l = absurd (omega arith)
-element_at each width (x ∷ xs) zero d h l = rw mul-zero (take_at (each x) (flat_map each xs) width h.0)
+element_at each width (x ∷ xs) zero d h l = grind (arith, common_steps)
 element_at each width (x ∷ xs) (suc i) d h l =
     let more : width * suc i ≡ width + width * i = omega (arith, mul-suc width i) in
     let behind : drop (width + width * i) (each x ++ flat_map each xs) ≡ drop (width * i) (flat_map each xs) = sym (drop-drop (width * i) width (each x ++ flat_map each xs)) ∙ ap (drop (width * i)) (drop_at (each x) (flat_map each xs) width h.0) in
