@@ -1,5 +1,5 @@
 // The lines: each makes the calls of one edge and says what they answered.
-use anyhow::anyhow;
+use anyhow::Context;
 use counter::{Counter, Kind, Seat};
 use counters::HmacCounter;
 use registers::GlyphRegister;
@@ -32,13 +32,11 @@ pub fn show_pair(rt: &HostRuntime, view: u32, order: u32) -> io::Result<()> {
 
 /// A counter that stands at 7 is set to 7 again, by both kinds of certificates.
 pub fn show_present_value(rt: &HostRuntime) -> anyhow::Result<()> {
-    let Ok(seat) = Seat::new(3, 0) else {
-        return Err(anyhow!("a group of 3 has a seat 0"));
-    };
+    let seat = Seat::new(3, 0).context("a group of 3 has a seat 0")?;
     let mut counter = HmacCounter::new(seat, &[0; 32]);
-    let Ok(_) = counter.certify(Kind::Independent, 0, 7, b"") else {
-        return Err(anyhow!("a fresh counter can be set to 7"));
-    };
+    let _ = counter
+        .certify(Kind::Independent, 0, 7, b"")
+        .context("a fresh counter can be set to 7")?;
     let continuing = counter.certify(Kind::Continuing, 0, 7, b"");
     let independent = counter.certify(Kind::Independent, 0, 7, b"");
     show_certificate(rt, "continuing", continuing)?;
