@@ -1,4 +1,5 @@
 -- What several proofs share.
+mod Arrays
 mod Schedules
 mod Parsing
 mod Padding

@@ -1,8 +1,6 @@
--- The padding depends on the count modulo 2 ^ 64 only, and is what the last blocks hold.
-use Rattle.std.proofs.Common.{◌≡◌, ℕ, suc, ◌+◌, ◌-◌, ◌*◌, ◌/◌, ◌%◌, ◌^◌, ◌<◌, List, ◌∷◌, ◌++◌, length, take, drop, set, replicate, sym, refl, ap, ◌∙◌, add-zero, arith}
-use native.Mathlib.Nat.{sub-zero}
-use lib.Seq.{take-append-add}
-use Rattle.std.proofs.lemmas.List.{append_assoc, take-replicate, drop-replicate, set_at}
+-- The padding depends on the count modulo 2 ^ 64 only.
+use Rattle.std.proofs.Common.{◌≡◌, ℕ, ◌+◌, ◌-◌, ◌*◌, ◌/◌, ◌%◌, ◌^◌, ◌∷◌, take, replicate, sym, ap, ◌∙◌, add-one, arith}
+use Rattle.std.proofs.lemmas.List.{take-replicate}
 use Rattle.sha256.specs.Sha256.{be64, padding}
 
 -- eight bytes have the low 64 bits
@@ -34,29 +32,6 @@ bits_written count =
     let same : count * 8 ≡ 8 * count = omega arith in
     be64_mod (count * 8) ∙ ap be64 same
 
--- zeros, with bytes copied to their front and the bit 1 set behind the bytes
-pub one_bit : (waits new : List ℕ) → new ≡ waits → length waits < 64
-    → set (new ++ drop (length waits - 0) (replicate 128 0)) (length waits) 0x80 ≡ waits ++ 0x80 ∷ replicate (127 - length waits) 0
-one_bit waits new e few =
-    let left : 128 - length waits ≡ suc (127 - length waits) = omega arith in
-    ap (λ x. set (x ++ drop (length waits - 0) (replicate 128 0)) (length waits) 0x80) e
-    ∙ ap (λ n. set (waits ++ drop n (replicate 128 0)) (length waits) 0x80) (sub-zero (length waits))
-    ∙ ap (λ x. set (waits ++ x) (length waits) 0x80) (drop-replicate (length waits) 128 0 ∙ ap (λ n. replicate n 0) left)
-    ∙ set_at waits 0 (replicate (127 - length waits) 0) 0x80 (length waits) refl
-
--- these, cut behind z zeros
-cut : (waits zeros : List ℕ) (z n : ℕ) → n ≡ length waits + suc z → take n (waits ++ 0x80 ∷ zeros) ≡ waits ++ 0x80 ∷ take z zeros
-cut waits zeros z n e = ap (λ n. take n (waits ++ 0x80 ∷ zeros)) e ∙ take-append-add waits (0x80 ∷ zeros) (suc z)
-
--- and followed by the count of bits, are the bytes and their padding
-pub padding_last : (waits : List ℕ) (fill z count : ℕ) → length waits ≡ fill → fill ≡ count % 64 → z ≡ (119 - fill) % 64
-    → take (fill + 1 + z) (waits ++ 0x80 ∷ replicate (127 - length waits) 0) ++ be64 (8 * count) ≡ waits ++ padding (count + 0)
-unfolding padding
-padding_last waits fill z count long e f =
-    let zeros : z ≡ (119 - count % 64) % 64 = omega arith in
-    let front : take (fill + 1 + z) (waits ++ 0x80 ∷ replicate (127 - length waits) 0) ≡ waits ++ 0x80 ∷ replicate z 0 =
-    cut waits (replicate (127 - length waits) 0) z (fill + 1 + z) (omega arith) ∙ ap (λ x. waits ++ 0x80 ∷ x) (take-replicate z (127 - length waits) 0 (omega arith)) in
-    ap (λ x. x ++ be64 (8 * count)) front
-    ∙ append_assoc waits (0x80 ∷ replicate z 0) (be64 (8 * count))
-    ∙ ap (λ n. waits ++ (0x80 ∷ (replicate n 0 ++ be64 (8 * count)))) zeros
-    ∙ ap (λ n. waits ++ padding n) (sym (add-zero count))
+-- the bit 1 and 63 zeros begin with what stands between a message and the count
+pub padding_front : (fill : ℕ) → take {A = ℕ} ((119 - fill) % 64 + 1) (0x80 ∷ replicate 63 0) ≡ 0x80 ∷ replicate ((119 - fill) % 64) 0
+padding_front fill = rw add-one (ap (λ x. 0x80 ∷ x) (take-replicate ((119 - fill) % 64) 63 0 (omega arith)))

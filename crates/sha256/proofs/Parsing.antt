@@ -1,6 +1,8 @@
 -- A message that is parsed into blocks, block by block.
-use Rattle.std.proofs.Common.{◌≡◌, ℕ, zero, suc, ◌+◌, ◌-◌, ◌*◌, ◌/◌, ◌%◌, ◌<◌, ◌≤◌, List, [], ◌∷◌, ◌++◌, length, take, drop, sym, ap, ◌∙◌, arith}
-use Rattle.std.proofs.lemmas.List.{append_assoc, length-append, length-take-le, length-drop, take_at, drop_at, drop-drop, take-append-drop, nil_from_length}
+use Rattle.std.proofs.Common.{◌≡◌, ℕ, zero, suc, ◌+◌, ◌*◌, ◌/◌, ◌<◌, List, [], ◌∷◌, ◌++◌, length, get_or, take, drop, sym, refl, ap, ◌∙◌, arith}
+use Rattle.std.specs.List.{flat_map, fold}
+use Rattle.std.specs.Simd.{first_chunks}
+use Rattle.std.proofs.lemmas.List.{append_assoc, length-append, take_at, drop_at, drop-drop, take-append-drop}
 use Rattle.sha256.specs.Sha256.{blocks, parsed, compressed, hashed}
 
 -- the first block stands in front of the others
@@ -21,44 +23,38 @@ pub hashed_block : (h b rest : List ℕ) → length b ≡ 64 → hashed h (parse
 unfolding hashed
 hashed_block h b rest long = ap (hashed h) (parsed_block b rest long)
 
-hashed_short : (h m : List ℕ) → length m / 64 ≡ 0 → hashed h (parsed m) ≡ h
+pub hashed_short : (h m : List ℕ) → length m / 64 ≡ 0 → hashed h (parsed m) ≡ h
 unfolding hashed
 hashed_short h m none = ap (hashed h) (parsed_short m none)
 
-hashed_front : (h m : List ℕ) → 64 ≤ length m → hashed h (parsed m) ≡ hashed (compressed h (take 64 m)) (parsed (drop 64 m))
-hashed_front h m long =
-    ap (λ x. hashed h (parsed x)) (sym (take-append-drop 64 m)) ∙ hashed_block h (take 64 m) (drop 64 m) (length-take-le 64 m long)
-
--- the block at the front of what is left after i of them
-pub hashed_more : (h next bytes : List ℕ) (i : ℕ) → i < length bytes / 64 → next ≡ compressed h (take (64 * i + 64 - 64 * i) (drop (64 * i) bytes))
-    → hashed next (parsed (drop (64 * (i + 1)) bytes)) ≡ hashed h (parsed (drop (64 * i) bytes))
-hashed_more h next bytes i below e =
-    let left : List ℕ = drop (64 * i) bytes in
-    let long : 64 ≤ length left = simp length-drop (omega arith) in
-    let one : 64 * i + 64 - 64 * i ≡ 64 = omega arith in
-    let on : 64 * i + 64 ≡ 64 * (i + 1) = omega arith in
-    ap (λ x. hashed x (parsed (drop (64 * (i + 1)) bytes))) (e ∙ ap (λ n. compressed h (take n left)) one)
-    ∙ ap (λ x. hashed (compressed h (take 64 left)) (parsed x)) (sym (drop-drop 64 (64 * i) bytes ∙ ap (λ n. drop n bytes) on))
-    ∙ sym (hashed_front h left long)
-
--- nothing is left after the last block
-pub hashed_all : (h bytes : List ℕ) (i : ℕ) → length bytes / 64 ≤ i → hashed h (parsed (drop (64 * i) bytes)) ≡ h
-hashed_all h bytes i past = hashed_short h (drop (64 * i) bytes) (simp length-drop (omega arith))
-
-hashed_blocks : (n : ℕ) (h a b : List ℕ) → length a ≡ 64 * n → hashed h (parsed (a ++ b)) ≡ hashed (hashed h (parsed a)) (parsed b)
-hashed_blocks zero h a b long =
-    let none : a ≡ [] = nil_from_length a (omega arith) in
-    ap (λ x. hashed h (parsed (x ++ b))) none ∙ ap (λ x. hashed x (parsed b)) (sym (hashed_short h a (omega arith)))
-hashed_blocks (suc n) h a b long =
-    let front : List ℕ = take 64 a in
-    let behind : List ℕ = drop 64 a in
-    let one : length front ≡ 64 = length-take-le 64 a (omega arith) in
-    ap (λ x. hashed h (parsed (x ++ b))) (sym (take-append-drop 64 a))
-    ∙ ap (λ x. hashed h (parsed x)) (append_assoc front behind b)
-    ∙ hashed_block h front (behind ++ b) one
-    ∙ hashed_blocks n (compressed h front) behind b (simp length-drop (omega arith))
-    ∙ ap (λ x. hashed x (parsed b)) (sym (hashed_front h a (omega arith)))
+-- blocks are hashed one after the other
+pub hashed_fold : (h : List ℕ) (ms : List (List ℕ)) → fold compressed h ms ≡ hashed h ms
+unfolding hashed
+hashed_fold h [] = refl
+hashed_fold h (m ∷ ms) = hashed_fold (compressed h m) ms
 
 -- whole blocks in front are hashed first
-pub hashed_whole : (h a b : List ℕ) → length a % 64 ≡ 0 → hashed h (parsed (a ++ b)) ≡ hashed (hashed h (parsed a)) (parsed b)
-hashed_whole h a b whole = hashed_blocks (length a / 64) h a b (omega arith)
+pub hashed_whole : (h : List ℕ) (bs : List (List ℕ)) (rest : List ℕ) → ((k : ℕ) → k < length bs → length (get_or bs k []) ≡ 64)
+    → hashed h (parsed (flat_map (λ b. b) bs ++ rest)) ≡ hashed (hashed h bs) (parsed rest)
+unfolding hashed
+hashed_whole h [] rest all = refl
+hashed_whole h (b ∷ bs) rest all =
+    ap (λ x. hashed h (parsed x)) (append_assoc b (flat_map (λ b. b) bs) rest)
+    ∙ hashed_block h b (flat_map (λ b. b) bs ++ rest) (all 0 (omega arith))
+    ∙ hashed_whole (compressed h b) bs rest (λ k below. all (suc k) (omega arith))
+
+first_chunks_joined : (n k : ℕ) (xs : List ℕ) → flat_map (λ b. b) (first_chunks n k xs) ++ drop (k * n) xs ≡ xs
+first_chunks_joined n zero xs =
+    let none : zero * n ≡ zero = omega arith in
+    ap (λ m. drop m xs) none
+first_chunks_joined n (suc k) xs =
+    let more : n + k * n ≡ suc k * n = grind arith in
+    append_assoc (take n xs) (flat_map (λ b. b) (first_chunks n k (drop n xs))) (drop (suc k * n) xs)
+    ∙ ap (λ x. take n xs ++ (flat_map (λ b. b) (first_chunks n k (drop n xs)) ++ x)) (sym (drop-drop (k * n) n xs ∙ ap (λ m. drop m xs) more))
+    ∙ ap (λ x. take n xs ++ x) (first_chunks_joined n k (drop n xs))
+    ∙ take-append-drop n xs
+
+-- the chunks of a list, and what is left behind them
+pub chunks_joined : (n k : ℕ) (xs : List ℕ) (chunks : List (List ℕ)) (left : List ℕ) → chunks ≡ first_chunks n k xs → left ≡ drop (k * n) xs → flat_map (λ b. b) chunks ++ left ≡ xs
+chunks_joined n k xs chunks left front back =
+    ap (λ x. flat_map (λ b. b) x ++ left) front ∙ ap (λ x. flat_map (λ b. b) (first_chunks n k xs) ++ x) back ∙ first_chunks_joined n k xs

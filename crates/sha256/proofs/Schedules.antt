@@ -1,13 +1,10 @@
--- The schedule and the rounds, sixteen words at a time.
-use Rattle.std.proofs.Common.{◌≡◌, ℕ, zero, suc, ◌+◌, ◌-◌, ◌<◌, ◌≤◌, List, [], ◌∷◌, ◌++◌, map, length, get_or, take, sym, refl, ap, ◌∙◌, suc-add, zero-add, arith}
-use Rattle.std.specs.List.{range_with_len}
+-- The schedule word by word, and the rounds in rows of eight.
+use Rattle.std.proofs.Common.{◌≡◌, ℕ, zero, suc, ◌-◌, ◌*◌, ◌<◌, ◌≤◌, List, [], ◌∷◌, ◌++◌, map, length, get_or, take, drop, sym, refl, ap, ◌∙◌, arith}
+use Rattle.std.specs.List.{fold, zip, range_with_len}
+use Rattle.std.specs.Simd.{first_chunks}
 use Rattle.std.proofs.lemmas.List.FromFn.{fill_by_all}
-use Rattle.std.proofs.lemmas.List.{append_assoc, length-append, length-take-le, take_more, take_all, get_or-append-add}
-use Rattle.sha256.specs.Sha256.{next, extended, round, rounds}
-
--- a list of sixteen words is its elements
-pub sixteen : (w : List ℕ) → length w ≡ 16 → w ≡ map (λ i. get_or w i 0) (range_with_len 0 16)
-sixteen w long = fill_by_all (λ i. get_or w i 0) w 16 0 long (λ i h. refl)
+use Rattle.std.proofs.lemmas.List.{length-take-le, length-drop, take-append-drop, get_or-take}
+use Rattle.sha256.specs.Sha256.{scheduled, next, extended, round, rounds}
 
 -- rounds in two parts
 rounds_append : (s ks ls ws vs : List ℕ) → length ks ≡ length ws → rounds s (ks ++ ls) (ws ++ vs) ≡ rounds (rounds s ks ws) ls vs
@@ -17,71 +14,61 @@ rounds_append s [] ls (w ∷ ws) vs e = absurd (omega arith)
 rounds_append s (k ∷ ks) ls [] vs e = absurd (omega arith)
 rounds_append s (k ∷ ks) ls (w ∷ ws) vs e = rounds_append (round s k w) ks ls ws vs (omega arith)
 
--- one round more of sixteen
-module _ (h k w : List ℕ) (k_long : length k ≡ 16) (w_long : length w ≡ 16) where
-  pub rounds_more : {s r : List ℕ} (t : ℕ) → t < 16 → s ≡ rounds h (take t k) (take t w) → r ≡ round s (get_or k t 0) (get_or w t 0)
-      → r ≡ rounds h (take (t + 1) k) (take (t + 1) w)
-  unfolding rounds
-  rounds_more {s} {r} t below before more =
-      let ks = take_more k t 0 (omega arith) in
-      let ws = take_more w t 0 (omega arith) in
-      let same : length (take t k) ≡ length (take t w) = length-take-le t k (omega arith) ∙ sym (length-take-le t w (omega arith)) in
-      let two = rounds_append h (take t k) (get_or k t 0 ∷ []) (take t w) (get_or w t 0 ∷ []) same in
-      more ∙ ap (λ x. round x (get_or k t 0) (get_or w t 0)) before ∙ sym two ∙ sym (cc (ks, ws))
+-- the rounds over a row of constants and a row of words
+abbrev pub row_rounds : List ℕ → List ℕ × List ℕ → List ℕ
+row_rounds s rows = rounds s rows.0 rows.1
 
-  pub rounds_sixteen : {r : List ℕ} → r ≡ rounds h (take 16 k) (take 16 w) → r ≡ rounds h k w
-  rounds_sixteen {r} e =
-      let ks = take_all 16 k (omega arith) in
-      let ws = take_all 16 w (omega arith) in
-      cc
+rounds_of_chunks : (n : ℕ) (s ks ws : List ℕ) → length ks ≡ 8 * n → length ws ≡ 8 * n → fold row_rounds s (zip (first_chunks 8 n ks) (first_chunks 8 n ws)) ≡ rounds s ks ws
+unfolding rounds
+rounds_of_chunks zero s [] ws k_long w_long = refl
+rounds_of_chunks zero s (k ∷ ks) ws k_long w_long = absurd (omega arith)
+rounds_of_chunks (suc n) s ks ws k_long w_long =
+    let same : length (take 8 ks) ≡ length (take 8 ws) = length-take-le 8 ks (omega arith) ∙ sym (length-take-le 8 ws (omega arith)) in
+    rounds_of_chunks n (rounds s (take 8 ks) (take 8 ws)) (drop 8 ks) (drop 8 ws) (simp length-drop (omega arith)) (simp length-drop (omega arith))
+    ∙ sym (rounds_append s (take 8 ks) (drop 8 ks) (take 8 ws) (drop 8 ws) same)
+    ∙ ap (λ x. rounds s x (take 8 ws ++ drop 8 ws)) (take-append-drop 8 ks)
+    ∙ ap (λ x. rounds s ks x) (take-append-drop 8 ws)
 
--- rounds in four parts
-pub rounds_four : (s k0 k1 k2 k3 w0 w1 w2 w3 : List ℕ) → length k0 ≡ length w0 → length k1 ≡ length w1 → length k2 ≡ length w2
-    → rounds s (k0 ++ (k1 ++ (k2 ++ k3))) (w0 ++ (w1 ++ (w2 ++ w3))) ≡ rounds (rounds (rounds (rounds s k0 w0) k1 w1) k2 w2) k3 w3
-rounds_four s k0 k1 k2 k3 w0 w1 w2 w3 e0 e1 e2 =
-    rounds_append s k0 (k1 ++ (k2 ++ k3)) w0 (w1 ++ (w2 ++ w3)) e0
-    ∙ rounds_append (rounds s k0 w0) k1 (k2 ++ k3) w1 (w2 ++ w3) e1
-    ∙ rounds_append (rounds (rounds s k0 w0) k1 w1) k2 k3 w2 w3 e2
+-- rounds in rows of eight
+pub rounds_by_rows : (n : ℕ) (s ks ws : List ℕ) (k_rows w_rows : List (List ℕ)) → k_rows ≡ first_chunks 8 n ks → w_rows ≡ first_chunks 8 n ws
+    → length ks ≡ 8 * n → length ws ≡ 8 * n → fold row_rounds s (zip k_rows w_rows) ≡ rounds s ks ws
+rounds_by_rows n s ks ws k_rows w_rows k_is w_is k_long w_long =
+    ap (λ x. fold row_rounds s (zip x w_rows)) k_is
+    ∙ ap (λ x. fold row_rounds s (zip (first_chunks 8 n ks) x)) w_is
+    ∙ rounds_of_chunks n s ks ws k_long w_long
 
--- a place counted from the end does not see what stands in front
-from_end : (p w : List ℕ) (j : ℕ) → j ≤ length w → get_or (p ++ w) (length (p ++ w) - j) 0 ≡ get_or w (length w - j) 0
-from_end p w j h =
-    let place : length (p ++ w) - j ≡ length p + (length w - j) = simp length-append (omega arith) in
-    ap (λ i. get_or (p ++ w) i 0) place ∙ get_or-append-add p w (length w - j) 0
+-- a list of eight is its elements
+eight : (w : List ℕ) → length w ≡ 8 → w ≡ map (λ i. get_or w i 0) (range_with_len 0 8)
+eight w long = fill_by_all (λ i. get_or w i 0) w 8 0 long (λ i h. refl)
 
--- sixteen words fix the next one
-next_behind : (p w : List ℕ) → 16 ≤ length w → next (p ++ w) ≡ next w
-next_behind p w h =
-    let e2 = from_end p w 2 (omega arith) in
-    let e7 = from_end p w 7 (omega arith) in
-    let e15 = from_end p w 15 (omega arith) in
-    let e16 = from_end p w 16 h in
-    cc
+-- eight rounds, one after the other
+pub rounds_eight : (s k w : List ℕ) → length k ≡ 8 → length w ≡ 8 → rounds s k w ≡
+    (let s1 = round s (get_or k 0 0) (get_or w 0 0) in
+    let s2 = round s1 (get_or k 1 0) (get_or w 1 0) in
+    let s3 = round s2 (get_or k 2 0) (get_or w 2 0) in
+    let s4 = round s3 (get_or k 3 0) (get_or w 3 0) in
+    let s5 = round s4 (get_or k 4 0) (get_or w 4 0) in
+    let s6 = round s5 (get_or k 5 0) (get_or w 5 0) in
+    let s7 = round s6 (get_or k 6 0) (get_or w 6 0) in
+    round s7 (get_or k 7 0) (get_or w 7 0))
+unfolding rounds
+rounds_eight s k w k_long w_long =
+    ap (λ x. rounds s x w) (eight k k_long) ∙ ap (rounds s (map (λ i. get_or k i 0) (range_with_len 0 8))) (eight w w_long)
 
-extended_behind : (n : ℕ) (p w : List ℕ) → 16 ≤ length w → extended n (p ++ w) ≡ p ++ extended n w
+-- the word at place t, behind the t words before it
+pub extended_more : (left less t : ℕ) (w : List ℕ) (x : ℕ) → left ≡ suc less → 16 ≤ t → t < length w
+    → x ≡ scheduled (get_or w (t - 2) 0) (get_or w (t - 7) 0) (get_or w (t - 15) 0) (get_or w (t - 16) 0)
+    → extended less (take t w ++ x ∷ []) ≡ extended left (take t w)
 unfolding extended
-extended_behind zero p w h = refl
-extended_behind (suc n) p w h =
-    ap (λ x. extended n (p ++ w ++ x ∷ [])) (next_behind p w h)
-    ∙ ap (extended n) (append_assoc p w (next w ∷ []))
-    ∙ extended_behind n p (w ++ next w ∷ []) (simp length-append (omega arith))
+extended_more left less t w x e few below x_is =
+    let long : length (take t w) ≡ t = length-take-le t w (omega arith) in
+    let w2 = get_or-take t w (t - 2) 0 (omega arith) in
+    let w7 = get_or-take t w (t - 7) 0 (omega arith) in
+    let w15 = get_or-take t w (t - 15) 0 (omega arith) in
+    let w16 = get_or-take t w (t - 16) 0 (omega arith) in
+    let x_next : x ≡ next (take t w) = cc in
+    ap (λ y. extended less (take t w ++ y ∷ [])) x_next ∙ ap (λ n. extended n (take t w)) (sym e)
 
--- the next word
-pub extended_more : (n : ℕ) (w : List ℕ) (x : ℕ) → x ≡ next w → extended n (w ++ x ∷ []) ≡ extended (suc n) w
+pub extended_all : (left : ℕ) (w : List ℕ) → left ≡ 0 → extended left w ≡ w
 unfolding extended
-extended_more n w x e = ap (λ y. extended n (w ++ y ∷ [])) e
-
-extended_twice : (m n : ℕ) (w : List ℕ) → extended (m + n) w ≡ extended n (extended m w)
-unfolding extended
-extended_twice zero n w = ap (λ i. extended i w) (zero-add n)
-extended_twice (suc m) n w = ap (λ i. extended i w) (suc-add m n) ∙ extended_twice m n (w ++ next w ∷ [])
-
--- sixteen words after sixteen are the whole schedule
-pub extended_four : (w0 w1 w2 w3 : List ℕ) → length w0 ≡ 16 → length w1 ≡ 16 → length w2 ≡ 16
-    → w0 ++ w1 ≡ extended 16 w0 → w1 ++ w2 ≡ extended 16 w1 → w2 ++ w3 ≡ extended 16 w2 → extended 48 w0 ≡ w0 ++ (w1 ++ (w2 ++ w3))
-extended_four w0 w1 w2 w3 l0 l1 l2 e0 e1 e2 =
-    extended_twice 16 32 w0
-    ∙ ap (extended 32) (sym e0)
-    ∙ extended_behind 32 w0 w1 (omega arith)
-    ∙ ap (λ x. w0 ++ x) (extended_twice 16 16 w1 ∙ ap (extended 16) (sym e1) ∙ extended_behind 16 w1 w2 (omega arith))
-    ∙ ap (λ x. w0 ++ (w1 ++ x)) (sym e2)
+extended_all left w none = ap (λ n. extended n w) none

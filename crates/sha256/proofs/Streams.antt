@@ -1,47 +1,91 @@
--- What a hash in progress gives, over lists: bytes that have come give what they give where they are still to come.
-use Rattle.std.proofs.Common.{◌≡◌, ℕ, ◌+◌, ◌%◌, ◌^◌, List, ◌++◌, length, sym, ap, ◌∙◌, arith}
-use Rattle.std.proofs.lemmas.List.{append_assoc, length-append}
-use Rattle.sha256.specs.Sha256.{padding, parsed, compressed, hashed}
+-- What a hash in progress becomes when bytes come, and what it gives then.
+use Rattle.std.proofs.Common.{◌≡◌, ℕ, ◌+◌, ◌-◌, ◌*◌, ◌%◌, ◌^◌, ◌<◌, List, [], ◌∷◌, ◌++◌, length, get_or, take, replicate, sym, refl, ap, add-zero, ◌∙◌, arith}
+use Rattle.std.specs.List.{flat_map, fold}
+use Rattle.std.proofs.lemmas.List.{append_assoc, append-nil, length-append, length-replicate}
+use Rattle.sha256.specs.Sha256.{be64, padding, parsed, compressed, hashed, digest_bytes}
+use Rattle.sha256.specs.Progress.{waiting, remaining, digest_after, TakesIn}
+use Rattle.sha256.specs.declared.hashing.Sha256.{Sha256}
 use Rattle.sha256.proofs.Padding.{padding_mod}
-use Rattle.sha256.proofs.Parsing.{hashed_block, hashed_whole}
+use Rattle.sha256.proofs.Parsing.{hashed_block, hashed_short, hashed_fold, hashed_whole}
 
--- what follows once bytes have been counted, and what follows with them before that
-abbrev behind : List ℕ → List ℕ → ℕ → List ℕ
-behind bytes rest n = rest ++ padding ((n + length bytes) % 2 ^ 64 + length rest)
+-- bytes that have come give what they give where they are still to come
+pub digest_after_taken : (s t : Sha256) (bytes : List ℕ) → TakesIn s bytes t → (rest : List ℕ) → digest_after t rest ≡ digest_after s (bytes ++ rest)
+unfolding remaining
+digest_after_taken s t bytes took rest =
+    let counted = took.counted in
+    let same : (t.count + length rest) % 2 ^ 64 ≡ (s.count + length (bytes ++ rest)) % 2 ^ 64 = simp length-append (omega arith) in
+    ap digest_bytes (took.absorbed (rest ++ padding (t.count + length rest)))
+    ∙ ap (λ p. digest_bytes (hashed s.h (parsed (waiting s ++ (bytes ++ (rest ++ p)))))) (padding_mod (t.count + length rest) (s.count + length (bytes ++ rest)) same)
+    ∙ ap (λ x. digest_bytes (hashed s.h (parsed (waiting s ++ x)))) (sym (append_assoc bytes rest (padding (s.count + length (bytes ++ rest)))))
 
-abbrev before : List ℕ → List ℕ → ℕ → List ℕ
-before bytes rest n = bytes ++ rest ++ padding (n + length (bytes ++ rest))
-
-counted : (bytes rest : List ℕ) (n : ℕ) → bytes ++ behind bytes rest n ≡ before bytes rest n
-counted bytes rest n =
-    let same : ((n + length bytes) % 2 ^ 64 + length rest) % 2 ^ 64 ≡ (n + length (bytes ++ rest)) % 2 ^ 64 = simp length-append (omega arith) in
-    ap (λ p. bytes ++ (rest ++ p)) (padding_mod ((n + length bytes) % 2 ^ 64 + length rest) (n + length (bytes ++ rest)) same)
-    ∙ sym (append_assoc bytes rest (padding (n + length (bytes ++ rest))))
+-- bytes that come in two parts
+pub both_taken : (s t u : Sha256) (a b : List ℕ) → TakesIn s a t → TakesIn t b u → TakesIn s (a ++ b) u
+both_taken s t u a b first second =
+    let counted = first.counted in
+    let more = second.counted in
+    record {
+      counted = simp length-append (omega arith);
+      absorbed = λ tail.
+          second.absorbed tail ∙ first.absorbed (b ++ tail) ∙ ap (λ x. hashed s.h (parsed (waiting s ++ x))) (sym (append_assoc a b tail));
+    }
 
 -- bytes that wait behind the others
-pub held : (waits waits' bytes rest : List ℕ) (n : ℕ) → waits' ≡ waits ++ bytes → waits' ++ behind bytes rest n ≡ waits ++ before bytes rest n
-held waits waits' bytes rest n e =
-    ap (λ x. x ++ behind bytes rest n) e ∙ append_assoc waits bytes (behind bytes rest n) ∙ ap (λ x. waits ++ x) (counted bytes rest n)
+pub held : (s t : Sha256) (bytes : List ℕ) → t.count ≡ (s.count + length bytes) % 2 ^ 64 → t.h ≡ s.h → waiting t ≡ waiting s ++ bytes → TakesIn s bytes t
+held s t bytes counted same wait = record {
+  counted = counted;
+  absorbed = λ tail.
+      ap (λ h. hashed h (parsed (waiting t ++ tail))) same
+      ∙ ap (λ x. hashed s.h (parsed (x ++ tail))) wait
+      ∙ ap (λ x. hashed s.h (parsed x)) (append_assoc (waiting s) bytes tail);
+}
 
 -- bytes that fill a block, which is hashed
-pub filled : (h h' block waits bytes rest : List ℕ) (n : ℕ) → block ≡ waits ++ bytes → length block ≡ 64 → h' ≡ compressed h block
-    → hashed h' (parsed (behind bytes rest n)) ≡ hashed h (parsed (waits ++ before bytes rest n))
-filled h h' block waits bytes rest n e long into =
-    ap (λ x. hashed x (parsed (behind bytes rest n))) into
-    ∙ sym (hashed_block h block (behind bytes rest n) long)
-    ∙ ap (λ x. hashed h (parsed x)) (held waits block bytes rest n e)
+pub completed : (s t : Sha256) (bytes : List ℕ) → t.count ≡ (s.count + length bytes) % 2 ^ 64 → s.count % 64 + length bytes ≡ 64
+    → t.block ≡ waiting s ++ bytes → length t.block ≡ 64 → t.h ≡ compressed s.h t.block → TakesIn s bytes t
+completed s t bytes counted full block long into =
+    let empty : t.count % 64 ≡ 0 = omega arith in
+    record {
+      counted = counted;
+      absorbed = λ tail.
+          ap (λ n. hashed t.h (parsed (take n t.block ++ tail))) empty
+          ∙ ap (λ h. hashed h (parsed tail)) into
+          ∙ sym (hashed_block s.h t.block tail long)
+          ∙ ap (λ x. hashed s.h (parsed (x ++ tail))) block
+          ∙ ap (λ x. hashed s.h (parsed x)) (append_assoc (waiting s) bytes tail);
+    }
 
 -- whole blocks that are hashed where nothing waits
-pub absorbed : (h h' bytes rest : List ℕ) (n : ℕ) → length bytes % 64 ≡ 0 → h' ≡ hashed h (parsed bytes)
-    → hashed h' (parsed (behind bytes rest n)) ≡ hashed h (parsed (before bytes rest n))
-absorbed h h' bytes rest n whole into =
-    ap (λ x. hashed x (parsed (behind bytes rest n))) into
-    ∙ sym (hashed_whole h bytes (behind bytes rest n) whole)
-    ∙ ap (λ x. hashed h (parsed x)) (counted bytes rest n)
+pub absorbed : (s t : Sha256) (blocks : List (List ℕ)) → s.count % 64 ≡ 0 → ((k : ℕ) → k < length blocks → length (get_or blocks k []) ≡ 64) → length (flat_map (λ b. b) blocks) ≡ length blocks * 64
+    → t.count ≡ (s.count + length (flat_map (λ b. b) blocks)) % 2 ^ 64 → t.h ≡ fold compressed s.h blocks → TakesIn s (flat_map (λ b. b) blocks) t
+absorbed s t blocks none all long counted into =
+    let bytes : List ℕ = flat_map (λ b. b) blocks in
+    let empty : t.count % 64 ≡ 0 = omega arith in
+    record {
+      counted = counted;
+      absorbed = λ tail.
+          ap (λ n. hashed t.h (parsed (take n t.block ++ tail))) empty
+          ∙ ap (λ h. hashed h (parsed tail)) (into ∙ hashed_fold s.h blocks)
+          ∙ sym (hashed_whole s.h blocks tail all)
+          ∙ ap (λ n. hashed s.h (parsed (take n s.block ++ (bytes ++ tail)))) (sym none);
+    }
 
--- three parts one behind the other
-pub three_parts : (bytes first others whole last rest : List ℕ) → bytes ≡ first ++ others → others ≡ whole ++ last → first ++ (whole ++ (last ++ rest)) ≡ bytes ++ rest
-three_parts bytes first others whole last rest e f =
-    ap (λ x. first ++ x) (sym (append_assoc whole last rest) ∙ ap (λ x. x ++ rest) (sym f))
-    ∙ sym (append_assoc first others rest)
-    ∙ ap (λ x. x ++ rest) (sym e)
+-- once the padding has come in its two parts, nothing waits, and the hash value is what the digest is made of
+pub finished : (s t u : Sha256) (first last : List ℕ) → TakesIn s first t → TakesIn t last u
+    → first ≡ 0x80 ∷ replicate ((119 - s.count % 64) % 64) 0 → last ≡ be64 (8 * s.count) → length last ≡ 8 → digest_bytes u.h ≡ digest_after s []
+unfolding remaining padding
+finished s t u first last one two first_is last_is eight =
+    let both = both_taken s t u first last one two in
+    let counted = both.counted in
+    let long : length first ≡ 1 + (119 - s.count % 64) % 64 = ap length first_is ∙ simp length-replicate (omega arith) in
+    let all : length (first ++ last) ≡ 9 + (119 - s.count % 64) % 64 = simp length-append (omega arith) in
+    let empty : u.count % 64 ≡ 0 = omega arith in
+    let parts : first ++ last ≡ padding (s.count + 0) =
+    ap (λ x. x ++ last) first_is
+    ∙ ap (λ x. 0x80 ∷ (replicate ((119 - s.count % 64) % 64) 0 ++ x)) last_is
+    ∙ ap padding (sym (add-zero s.count)) in
+    ap digest_bytes (
+    sym (hashed_short u.h [] refl)
+    ∙ ap (λ n. hashed u.h (parsed (take n u.block ++ []))) (sym empty)
+    ∙ both.absorbed []
+    ∙ ap (λ x. hashed s.h (parsed (waiting s ++ x))) (append-nil (first ++ last) ∙ parts)
+    )

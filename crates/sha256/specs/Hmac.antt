@@ -1,5 +1,5 @@
 -- HMAC with SHA-256 as RFC 2104 defines it, over lists of bytes.
-use Rattle.std.specs.Prelude.{ℕ, ◌-◌, cond, List, ◌++◌, map, length, replicate, bit_xor, nat_lt}
+use Rattle.std.specs.Prelude.{ℕ, ◌-◌, if◌then◌else◌, List, ◌++◌, map, length, replicate, bit_xor, nat_lt}
 use Rattle.sha256.specs.Sha256.{sha256}
 
 -- section 2: the bytes that ipad and opad repeat
@@ -18,7 +18,7 @@ xored k pad = map (λ b. bit_xor b pad) k
 
 -- a key of more than 64 bytes is hashed first
 unfoldable pub block_key : List ℕ → List ℕ
-block_key k = cond (nat_lt 64 (length k)) (zero_filled (sha256 k)) (zero_filled k)
+block_key k = if nat_lt 64 (length k) then zero_filled (sha256 k) else zero_filled k
 
 -- H(K XOR opad, H(K XOR ipad, text))
 unfoldable pub hmac : List ℕ → List ℕ → List ℕ

@@ -3,6 +3,7 @@ ghost use Rattle.std.specs.Prelude.{◌≡◌, ◌<◌};
 ghost use Rattle.sha256.specs.Sha256.{rotr, ch, maj, Σ0, Σ1, σ0, σ1};
 
 /// The rotation of a word by n places to the right.
+#[tactic(auto, unfolding(crate::specs::Sha256::rotr))]
 fn rotate(n: u32, x: u32) -> u32
     requires { (0 < n) × (n < 32) }
     ensures { result ≡ rotr n x }

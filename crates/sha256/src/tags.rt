@@ -1,12 +1,13 @@
 // Tags under a key, by HMAC (RFC 2104).
-ghost use Rattle.std.specs.Prelude.{◌≡◌, ℕ, List, [], ◌++◌};
+ghost use Rattle.std.specs.Prelude.{◌≡◌, ℕ, ◌≤◌, List, length};
 ghost use Rattle.sha256.specs.Sha256.{H0, compressed};
-ghost use Rattle.sha256.specs.Hmac.{ipad, opad, xored, block_key, hmac};
+ghost use Rattle.sha256.specs.Hmac.{zero_filled, xored, block_key, hmac};
 ghost use Rattle.sha256.specs.Progress.{tag_under, tag_after};
 
 use super::compression::compress;
 use super::constants::INITIAL;
 use super::hashing::{Sha256, digest};
+use streams::Stream;
 
 const IPAD: u8 = 0x36;
 
@@ -26,57 +27,50 @@ pub struct Hmac {
     outer: [u32; 8],
 }
 
-/// The key as one block.
-fn block_key(key: &[u8]) -> [u8; 64]
-    ensures { result ≡ block_key key.now }
+/// The bytes with zeros behind them.
+fn zero_filled(bytes: &[u8]) -> [u8; 64]
+    requires { length bytes.now ≤ 64 }
+    ensures { result ≡ zero_filled bytes.now }
 {
     let mut block = [0; 64];
-    if key.len() > 64 {
-        block[0..32].copy_from_slice(&digest(key));
-    } else {
-        block[0..key.len()].copy_from_slice(key);
-    }
+    block[..bytes.len()].copy_from_slice(bytes);
     block
 }
 
-/// The block of a key against a pad.
-fn masked(key: [u8; 64], pad: u8) -> [u8; 64]
-    ensures { result ≡ xored key pad }
+/// The key as one block.
+#[tactic(auto, unfolding(crate::specs::Hmac::block_key))]
+fn block_key(key: &[u8]) -> [u8; 64]
+    ensures { result ≡ block_key key.now }
 {
-    let mut block = key;
-    for i in 0..64 {
-        block[i] = block[i] ^ pad;
+    if key.len() > 64 {
+        zero_filled(&digest(key))
+    } else {
+        zero_filled(key)
     }
-    block
 }
 
 /// The hash value after the block of a key against a pad.
 fn after_pad(key: [u8; 64], pad: u8) -> [u32; 8]
     ensures { result ≡ compressed H0 (xored key pad) }
 {
-    compress(INITIAL, &masked(key, pad))
-}
-
-/// The key that a block makes ready.
-fn ready(key: [u8; 64]) -> HmacKey
-    ensures inner { result.inner ≡ compressed H0 (xored key ipad) }
-    ensures outer { result.outer ≡ compressed H0 (xored key opad) }
-{
-    HmacKey {
-        inner: after_pad(key, IPAD),
-        outer: after_pad(key, OPAD),
-    }
+    compress(INITIAL, &key.map(|byte| byte ^ pad))
 }
 
 impl HmacKey {
     /// The key made ready, whatever its length.
+    #[tactic(auto, using(crate::proofs::Keys::tags_from), unfolding(crate::specs::Hmac::hmac, crate::specs::Progress::tag_under))]
     pub fn new(key: &[u8]) -> HmacKey
         ensures { (m : List ℕ) → tag_under result m ≡ hmac key.now m }
     {
-        ready(block_key(key))
+        let block = block_key(key);
+        HmacKey {
+            inner: after_pad(block, IPAD),
+            outer: after_pad(block, OPAD),
+        }
     }
 
     /// A tag under the key of which no byte has come.
+    #[tactic(auto, unfolding(crate::specs::Progress::tag_under, crate::specs::Progress::tag_after))]
     pub fn start(&self) -> Hmac
         ensures { (rest : List ℕ) → tag_after result rest ≡ tag_under self.now rest }
     {
@@ -96,18 +90,17 @@ impl HmacKey {
     }
 }
 
-impl Hmac {
-    /// Takes in the bytes.
-    pub fn update(&mut self, bytes: &[u8])
-        ensures { (rest : List ℕ) → tag_after self.new rest ≡ tag_after self.old (bytes.now ++ rest) }
-    {
+#[tactic(auto, unfolding(crate::specs::Progress::tag_after))]
+impl Stream for Hmac {
+    type Output = [u8; 32];
+
+    ghost after = { tag_after };
+
+    fn update(&mut self, bytes: &[u8]) {
         self.inner.update(bytes);
     }
 
-    /// The tag of the bytes that have come.
-    pub fn finish(self) -> [u8; 32]
-        ensures { result ≡ tag_after self [] }
-    {
+    fn finish(self) -> [u8; 32] {
         let inner = self.inner.finish();
         let mut outer = Sha256::after_block(self.outer);
         outer.update(&inner);

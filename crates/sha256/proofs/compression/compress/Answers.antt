@@ -1,27 +1,24 @@
--- Four rows of sixteen rounds, each over the next sixteen words, are the rounds over the schedule.
-use Rattle.std.proofs.Common.{◌≡◌, length, take, drop, sym, ap, ◌∙◌, rules}
-use Rattle.sha256.specs.Sha256.{K, words, sums, compressed, rounds, extended}
-use Rattle.sha256.proofs.Schedules.{rounds_four, extended_four}
+-- The rounds in rows of eight are the rounds over the schedule.
+use Rattle.std.proofs.Common.{◌≡◌, ◌/◌, length, refl, ap, ◌∙◌, rules}
+use Rattle.std.specs.List.{fold, zip}
+use Rattle.std.specs.Simd.{first_chunks}
+use Rattle.std.proofs.lemmas.Iterator.{YieldsList-from_slice, YieldsList-from_zip}
+use Rattle.std.proofs.lemmas.Iterator.Consumers.{fold_from_yields_List}
+use Rattle.sha256.specs.Sha256.{K, sums, compressed, rounds}
+use Rattle.sha256.proofs.Schedules.{row_rounds, rounds_by_rows}
 use Rattle.sha256.proofs.compression.compress.Goals as goal
 
 pub returns : goal.returns
-unfolding compressed K
+unfolding compressed
 returns c =
     let h = c.args.h in
-    let w0 = c.block_words-w0.result in
-    let w1 = c.next_sixteen-w1.result in
-    let w2 = c.next_sixteen-w2.result in
-    let w3 = c.next_sixteen-w3.result in
-    let l0 : length w0 ≡ 16 = search rules in
-    let l1 : length w1 ≡ 16 = search rules in
-    let l2 : length w2 ≡ 16 = search rules in
-    let k0 = take 16 K in
-    let k1 = take 16 (drop 16 K) in
-    let k2 = take 16 (drop 32 K) in
-    let k3 = drop 48 K in
-    let schedule = extended_four w0 w1 w2 w3 l0 l1 l2 c.next_sixteen-w1.ensures c.next_sixteen-w2.ensures c.next_sixteen-w3.ensures in
-    let after : c.sixteen_rounds-s3.result ≡ rounds (rounds (rounds (rounds h k0 w0) k1 w1) k2 w2) k3 w3 =
-    c.sixteen_rounds-s3.ensures ∙ ap (λ s. rounds s k3 w3) (c.sixteen_rounds-s2.ensures ∙ ap (λ s. rounds s k2 w2) (c.sixteen_rounds-s1.ensures ∙ ap (λ s. rounds s k1 w1) c.sixteen_rounds-s0.ensures)) in
-    let all : c.sixteen_rounds-s3.result ≡ rounds h K (extended 48 (words c.args.block.now)) =
-    after ∙ sym (rounds_four h k0 k1 k2 k3 w0 w1 w2 w3 (sym l0) (sym l1) (sym l2)) ∙ ap (rounds h K) (sym schedule ∙ ap (extended 48) c.block_words-w0.ensures) in
+    let w = c.message_schedule-w.result in
+    let k_rows = c.as_chunks.result.0.now in
+    let w_rows = c.as_chunks-2.result.0.now in
+    let w_long : length w ≡ 64 = search rules in
+    let k_is : k_rows ≡ first_chunks 8 8 K = unfold K in c.as_chunks.ensures.front in
+    let w_is : w_rows ≡ first_chunks 8 8 w = c.as_chunks-2.ensures.front ∙ ap (λ n. first_chunks 8 (n / 8) w) w_long in
+    let folded : c.fold-s.result ≡ fold row_rounds h (zip k_rows w_rows) =
+    fold_from_yields_List _ row_rounds h _ c.fold-s.ensures.ran (YieldsList-from_zip (YieldsList-from_slice k_rows (cc)) (YieldsList-from_slice w_rows (cc))) (λ a x b q called. search rules) in
+    let all = folded ∙ rounds_by_rows 8 h K w k_rows w_rows k_is w_is (unfold K in refl) w_long ∙ ap (rounds h K) c.message_schedule-w.ensures in
     c.added.ensures ∙ ap (λ s. sums s h) all

@@ -1,21 +1,17 @@
--- Nothing waits before or after, and the blocks are hashed.
-use Rattle.std.proofs.Common.{◌≡◌, ◌+◌, ◌%◌, ◌^◌, ◌++◌, length, take, sym, ap, ◌∙◌, arith}
-use Rattle.sha256.specs.Sha256.{padding, parsed, hashed, digest_bytes}
-use Rattle.sha256.specs.Progress.{remaining}
+-- Nothing waits before, and the blocks are hashed one after the other.
+use Rattle.std.proofs.Common.{◌≡◌, ◌+◌, ◌%◌, ◌^◌, ap, sym, ◌∙◌, length, rules}
+use Rattle.std.specs.List.{fold}
+use Rattle.std.proofs.lemmas.Iterator.{YieldsList-from_slice}
+use Rattle.std.proofs.lemmas.Iterator.Consumers.{fold_from_yields_List}
+use Rattle.sha256.specs.Sha256.{compressed}
 use Rattle.sha256.proofs.Streams.{absorbed}
 use Rattle.sha256.proofs.hashing.Sha256.absorb.Goals as goal
 
 pub returns : goal.returns
-unfolding remaining
 returns c =
     let self = c.args.self.now in
-    let bytes = c.args.bytes.now in
-    let h = c.absorb_blocks-self.result in
-    let empty : (self.count + length bytes) % 2 ^ 64 % 64 ≡ 0 = omega arith in
-    record {
-      empty = empty;
-      after = λ rest.
-          ap (λ n. digest_bytes (hashed h (parsed (take n self.block ++ (rest ++ padding ((self.count + length bytes) % 2 ^ 64 + length rest)))))) empty
-          ∙ ap digest_bytes (absorbed self.h h bytes rest self.count c.requires.1 c.absorb_blocks-self.ensures)
-          ∙ ap (λ n. digest_bytes (hashed self.h (parsed (take n self.block ++ (bytes ++ rest ++ padding (self.count + length (bytes ++ rest))))))) (sym c.requires.0);
-    }
+    let blocks = c.args.blocks.now in
+    let folded : c.fold-self.result ≡ fold compressed self.h blocks =
+    fold_from_yields_List _ compressed self.h _ c.fold-self.ensures.ran (YieldsList-from_slice blocks (cc)) (λ a x b q called. search rules) in
+    let flat = c.as_flattened.ensures.value in
+    absorbed self _ blocks c.requires c.told-blocks (ap length (sym flat) ∙ c.as_flattened.ensures.len) (ap (λ x. (self.count + length x) % 2 ^ 64) flat) folded

@@ -1,33 +1,23 @@
 -- The bytes that waited and the new ones are the block that is compressed.
-use Rattle.std.proofs.Common.{◌≡◌, ◌+◌, ◌-◌, ◌%◌, ◌^◌, [], ◌++◌, length, take, drop, ap, ◌∙◌, arith, rules}
+use Rattle.std.proofs.Common.{◌≡◌, ◌-◌, ◌%◌, [], ◌++◌, length, take, drop, refl, ap, ◌∙◌, arith, rules}
 use borrow.Rule.Slice.PartMut.{put_mid}
 use Rattle.std.proofs.lemmas.List.{append-nil, drop_all, length-drop, length-append, length-take-le}
-use Rattle.sha256.specs.Sha256.{padding, parsed, hashed, digest_bytes}
-use Rattle.sha256.specs.Progress.{remaining}
-use Rattle.sha256.proofs.Streams.{filled}
+use Rattle.sha256.proofs.Streams.{completed}
 use Rattle.sha256.proofs.hashing.Sha256.complete.Goals as goal
 
 pub returns : goal.returns
-unfolding remaining
 returns c =
     let self = c.args.self.now in
     let bytes = c.args.bytes.now in
     let start = c.fill-start.result in
     let new = c.copy_from_slice.new.self in
-    let copied = c.copy_from_slice.ensures.after in
     let block = put_mid start (64 - start) self.block new in
     let long : length self.block ≡ 64 = search rules in
     let none : drop (64 - start) (drop start self.block) ≡ [] = drop_all (64 - start) (drop start self.block) (simp length-drop (omega arith)) in
     let whole : block ≡ take (self.count % 64) self.block ++ bytes =
     ap (λ x. take start self.block ++ (new ++ x)) none
-    ∙ ap (λ x. take start self.block ++ x) (append-nil new ∙ copied)
+    ∙ ap (λ x. take start self.block ++ x) (append-nil new ∙ c.copy_from_slice.ensures.after)
     ∙ ap (λ n. take n self.block ++ bytes) c.fill-start.ensures in
     let front : length (take (self.count % 64) self.block) ≡ self.count % 64 = length-take-le (self.count % 64) self.block (omega arith) in
     let full : length block ≡ 64 = ap length whole ∙ simp length-append (omega arith) in
-    let empty : (self.count + length bytes) % 2 ^ 64 % 64 ≡ 0 = omega arith in
-    record {
-      empty = empty;
-      after = λ rest.
-          ap (λ n. digest_bytes (hashed c.compress-self.result (parsed (take n block ++ (rest ++ padding ((self.count + length bytes) % 2 ^ 64 + length rest)))))) empty
-          ∙ ap digest_bytes (filled self.h c.compress-self.result block (take (self.count % 64) self.block) bytes rest self.count whole full c.compress-self.ensures);
-    }
+    completed self _ bytes refl c.requires whole full c.compress-self.ensures

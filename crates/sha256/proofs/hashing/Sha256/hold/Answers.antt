@@ -1,15 +1,12 @@
 -- The bytes wait behind those that waited.
-use Rattle.std.proofs.Common.{◌≡◌, ◌+◌, ◌-◌, ◌%◌, ◌^◌, ◌≤◌, ◌++◌, length, take, ap, ◌∙◌, arith, rules}
+use Rattle.std.proofs.Common.{◌≡◌, ◌+◌, ◌-◌, ◌%◌, ◌^◌, ◌≤◌, ◌++◌, length, take, refl, ap, ◌∙◌, arith, rules}
 use borrow.Rule.Slice.PartMut.{put_mid}
 use Rattle.std.proofs.lemmas.Slice.{take-put_mid}
-use Rattle.sha256.specs.Sha256.{parsed, hashed, digest_bytes}
-use Rattle.sha256.specs.Progress.{remaining}
 use Rattle.sha256.proofs.Streams.{held}
 use Rattle.sha256.proofs.hashing.Sha256.hold.Goals as goal
 
 pub returns : goal.returns
-unfolding remaining
-returns c = λ rest.
+returns c =
     let self = c.args.self.now in
     let bytes = c.args.bytes.now in
     let start = c.fill-start.result in
@@ -24,4 +21,4 @@ returns c = λ rest.
     ∙ take-put_mid start (start + length bytes - start) self.block new (start + length bytes) (omega arith) room
     ∙ ap (λ x. take start self.block ++ x) copied
     ∙ ap (λ n. take n self.block ++ bytes) c.fill-start.ensures in
-    ap (λ x. digest_bytes (hashed self.h (parsed x))) (held (take (self.count % 64) self.block) (take ((self.count + length bytes) % 2 ^ 64 % 64) block) bytes rest self.count wait)
+    held self _ bytes refl refl wait

@@ -1,7 +1,0 @@
--- The words so far.
-use Rattle.std.proofs.Common.{◌≡◌, ℕ, ◌<◌, length, get_or}
-use Rattle.sha256.specs.Sha256.{word}
-use Rattle.sha256.proofs.compression.block_words.Given as goal
-
-abbrev pub invariant-loop-t : goal.invariant-loop-t
-invariant-loop-t l = (length l.w ≡ 16) × ((k : ℕ) → k < l.t → get_or l.w k 0 ≡ word l.block k)

@@ -1,7 +1,0 @@
--- The new working variables are the standard's.
-use Rattle.sha256.specs.Sha256.{round}
-use Rattle.sha256.proofs.compression.one_round.Goals as goal
-
-pub returns : goal.returns
-unfolding round
-returns c = cc
