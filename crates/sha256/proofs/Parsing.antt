@@ -43,6 +43,10 @@ hashed_whole h (b ∷ bs) rest all =
     ∙ hashed_block h b (flat_map (λ b. b) bs ++ rest) (all 0 (omega arith))
     ∙ hashed_whole (compressed h b) bs rest (λ k below. all (suc k) (omega arith))
 
+-- the two parts of a list
+pub cut_joined : (n : ℕ) (xs front back : List ℕ) → front ≡ take n xs → back ≡ drop n xs → front ++ back ≡ xs
+cut_joined n xs front back e f = ap (λ x. x ++ back) e ∙ ap (λ x. take n xs ++ x) f ∙ take-append-drop n xs
+
 first_chunks_joined : (n k : ℕ) (xs : List ℕ) → flat_map (λ b. b) (first_chunks n k xs) ++ drop (k * n) xs ≡ xs
 first_chunks_joined n zero xs =
     let none : zero * n ≡ zero = omega arith in

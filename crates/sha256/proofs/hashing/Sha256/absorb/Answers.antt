@@ -7,8 +7,8 @@ use Rattle.sha256.specs.Sha256.{compressed}
 use Rattle.sha256.proofs.Streams.{absorbed}
 use Rattle.sha256.proofs.hashing.Sha256.absorb.Goals as goal
 
-pub returns : goal.returns
-returns c =
+pub returns-clause-taken : goal.returns-clause-taken
+returns-clause-taken c =
     let self = c.args.self.now in
     let blocks = c.args.blocks.now in
     let folded : c.fold-self.result ≡ fold compressed self.h blocks =

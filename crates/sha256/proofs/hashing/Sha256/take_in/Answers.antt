@@ -1,23 +1,10 @@
 -- The three parts of the bytes, one behind the other, are the bytes.
-use Rattle.std.proofs.Common.{◌≡◌, ◌+◌, ◌-◌, ◌/◌, ◌++◌, length, take, sym, subst, ap, ◌∙◌, arith}
+use Rattle.std.proofs.Common.{◌≡◌, ◌/◌, ◌++◌, length, subst, ap, ◌∙◌}
 use Rattle.std.specs.List.{flat_map}
-use Rattle.std.proofs.lemmas.List.{length-append, take-append-drop}
 use Rattle.sha256.specs.Progress.{TakesIn}
 use Rattle.sha256.proofs.Streams.{both_taken}
-use Rattle.sha256.proofs.Parsing.{chunks_joined}
+use Rattle.sha256.proofs.Parsing.{cut_joined, chunks_joined}
 use Rattle.sha256.proofs.hashing.Sha256.take_in.Goals as goal
-
-pub hold-requires-in-Some : goal.hold-requires-in-Some
-hold-requires-in-Some c =
-    let others = c.in-Some.others.now in
-    let blocks = c.as_chunks.result.0.now in
-    let last = c.as_chunks.result.1.now in
-    let joined = chunks_joined 64 (length others / 64) others blocks last c.as_chunks.ensures.front c.as_chunks.ensures.back in
-    let long : length (flat_map (λ b. b) blocks) + length last ≡ length others = sym (length-append (flat_map (λ b. b) blocks) last) ∙ ap length joined in
-    let split = c.in-Some.ensures.cases in
-    let first_counted = c.complete.ensures.counted in
-    let blocks_counted = c.absorb.ensures.counted in
-    omega arith
 
 pub returns-in-Some : goal.returns-in-Some
 returns-in-Some c =
@@ -29,9 +16,8 @@ returns-in-Some c =
     let last = c.as_chunks.result.1.now in
     let joined = chunks_joined 64 (length others / 64) others blocks last c.as_chunks.ensures.front c.as_chunks.ensures.back in
     let split = c.in-Some.ensures.cases in
-    let behind = both_taken _ _ _ _ _ c.absorb.ensures c.hold-in-Some.ensures in
+    let behind = both_taken _ _ _ _ _ c.absorb.ensures.taken c.hold-in-Some.ensures in
     let all = both_taken self _ _ first _ c.complete.ensures behind in
-    let room = 64 - c.fill.result in
     let whole : first ++ (flat_map (λ b. b) blocks ++ last) ≡ bytes =
-    ap (λ x. first ++ x) joined ∙ ap (λ x. x ++ others) split.1 ∙ ap (λ x. take room bytes ++ x) split.2 ∙ take-append-drop room bytes in
+    ap (λ x. first ++ x) joined ∙ cut_joined _ bytes first others split.1 split.2 in
     subst (λ x. TakesIn self x c.hold-in-Some.new.self) whole all
