@@ -1,5 +1,5 @@
 -- A message that is parsed into blocks, block by block.
-use Rattle.std.proofs.Common.{◌≡◌, ℕ, zero, suc, ◌+◌, ◌*◌, ◌/◌, ◌<◌, List, [], ◌∷◌, ◌++◌, length, get_or, take, drop, sym, refl, ap, ◌∙◌, arith}
+use Rattle.std.proofs.Common.{◌≡◌, ℕ, zero, suc, ◌+◌, ◌*◌, ◌/◌, ◌<◌, ◌≤◌, List, [], ◌∷◌, ◌++◌, length, get_or, take, drop, sym, refl, ap, ◌∙◌, arith}
 use Rattle.std.specs.List.{flat_map, fold}
 use Rattle.std.specs.Simd.{first_chunks}
 use Rattle.std.proofs.lemmas.List.{append_assoc, length-append, take_at, drop_at, drop-drop, take-append-drop}
@@ -44,8 +44,8 @@ hashed_whole h (b ∷ bs) rest all =
     ∙ hashed_whole (compressed h b) bs rest (λ k below. all (suc k) (omega arith))
 
 -- the two parts of a list
-pub cut_joined : (n : ℕ) (xs front back : List ℕ) → front ≡ take n xs → back ≡ drop n xs → front ++ back ≡ xs
-cut_joined n xs front back e f = ap (λ x. x ++ back) e ∙ ap (λ x. take n xs ++ x) f ∙ take-append-drop n xs
+pub cut_joined : {n : ℕ} (xs front back : List ℕ) → n ≤ length xs → front ≡ take n xs → back ≡ drop n xs → front ++ back ≡ xs
+cut_joined {n} xs front back long e f = ap (λ x. x ++ back) e ∙ ap (λ x. take n xs ++ x) f ∙ take-append-drop n xs
 
 first_chunks_joined : (n k : ℕ) (xs : List ℕ) → flat_map (λ b. b) (first_chunks n k xs) ++ drop (k * n) xs ≡ xs
 first_chunks_joined n zero xs =

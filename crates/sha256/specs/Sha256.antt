@@ -1,5 +1,5 @@
 -- SHA-256 as FIPS 180-4 defines it, over lists of bytes and of 32-bit words.
-use Rattle.std.specs.Prelude.{ℕ, zero, suc, ◌+◌, ◌-◌, ◌*◌, ◌/◌, ◌%◌, ◌^◌, List, [], ◌∷◌, ◌++◌, map, length, take, drop, replicate, bit_and, bit_or, bit_xor, slice_index, slice_index_or}
+use Rattle.std.specs.Prelude.{ℕ, zero, suc, ◌+◌, ◌-◌, ◌*◌, ◌/◌, ◌%◌, ◌^◌, List, [], ◌∷◌, ◌++◌, map, length, take, drop, replicate, bit_and, bit_or, bit_xor, slice_index}
 use Rattle.std.specs.List.{range_with_len, flat_map}
 
 -- 3.2: addition modulo 2 ^ 32, the complement, the shift right and the rotation right of a word
@@ -101,14 +101,14 @@ schedule m = extended 48 (words m)
 -- 6.2.2, step 3: one round on the working variables a to h, and a round for each constant and word
 unfoldable pub round : List ℕ → ℕ → ℕ → List ℕ
 round s k w =
-    let a = slice_index_or s 0 0 in
-    let b = slice_index_or s 1 0 in
-    let c = slice_index_or s 2 0 in
-    let d = slice_index_or s 3 0 in
-    let e = slice_index_or s 4 0 in
-    let f = slice_index_or s 5 0 in
-    let g = slice_index_or s 6 0 in
-    let h = slice_index_or s 7 0 in
+    let a = slice_index s 0 in
+    let b = slice_index s 1 in
+    let c = slice_index s 2 in
+    let d = slice_index s 3 in
+    let e = slice_index s 4 in
+    let f = slice_index s 5 in
+    let g = slice_index s 6 in
+    let h = slice_index s 7 in
     let T1 = add (add (add (add h (Σ1 e)) (ch e f g)) k) w in
     let T2 = add (Σ0 a) (maj a b c) in
     add T1 T2 ∷ a ∷ b ∷ c ∷ add d T1 ∷ e ∷ f ∷ g ∷ []

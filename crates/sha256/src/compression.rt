@@ -21,7 +21,6 @@ fn word(block: &[u8; 64], t: usize) -> u32
 }
 
 /// The sixteen words of a block.
-#[tactic(auto, unfolding(crate::specs::Sha256::words))]
 fn words(block: &[u8; 64]) -> [u32; 16]
     ensures { result ≡ words block.now }
 {

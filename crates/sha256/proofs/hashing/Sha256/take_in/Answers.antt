@@ -19,5 +19,5 @@ returns-in-Some c =
     let behind = both_taken _ _ _ _ _ c.absorb.ensures.taken c.hold-in-Some.ensures in
     let all = both_taken self _ _ first _ c.complete.ensures behind in
     let whole : first ++ (flat_map (λ b. b) blocks ++ last) ≡ bytes =
-    ap (λ x. first ++ x) joined ∙ cut_joined _ bytes first others split.1 split.2 in
+    ap (λ x. first ++ x) joined ∙ cut_joined bytes first others split.0 split.1 split.2 in
     subst (λ x. TakesIn self x c.hold-in-Some.new.self) whole all
