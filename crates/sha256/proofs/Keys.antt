@@ -8,9 +8,9 @@ use Rattle.sha256.specs.Progress.{digest_from}
 use Rattle.sha256.proofs.Parsing.{hashed_block}
 
 -- the digest of a block and what follows it
-digest_from_lem : (b m : List ℕ) → length b ≡ 64 → digest_from (compressed H0 b) m ≡ sha256 (b ++ m)
+digest_from_block : (b m : List ℕ) → length b ≡ 64 → digest_from (compressed H0 b) m ≡ sha256 (b ++ m)
 unfolding digest_from sha256
-digest_from_lem b m long =
+digest_from_block b m long =
     let count : 64 + length m ≡ length (b ++ m) = simp length-append (omega arith) in
     ap (λ n. digest_bytes (hashed (compressed H0 b) (parsed (m ++ padding n)))) count
     ∙ ap digest_bytes (sym (hashed_block H0 b (m ++ padding (length (b ++ m))) long))
@@ -26,6 +26,6 @@ pub tags_from : (k inner outer m : List ℕ) → length k ≡ 64 → inner ≡ c
     → digest_from outer (digest_from inner m) ≡ sha256 (xored k opad ++ sha256 (xored k ipad ++ m))
 tags_from k inner outer m long i o =
     ap (λ h. digest_from h (digest_from inner m)) o
-    ∙ digest_from_lem (xored k opad) (digest_from inner m) (xored_long k opad long)
+    ∙ digest_from_block (xored k opad) (digest_from inner m) (xored_long k opad long)
     ∙ ap (λ h. sha256 (xored k opad ++ digest_from h m)) i
-    ∙ ap (λ d. sha256 (xored k opad ++ d)) (digest_from_lem (xored k ipad) m (xored_long k ipad long))
+    ∙ ap (λ d. sha256 (xored k opad ++ d)) (digest_from_block (xored k ipad) m (xored_long k ipad long))

@@ -45,7 +45,7 @@ hashed_whole h (b ∷ bs) rest all =
 
 -- the two parts of a list
 pub cut_joined : {n : ℕ} (xs front back : List ℕ) → n ≤ length xs → front ≡ take n xs → back ≡ drop n xs → front ++ back ≡ xs
-cut_joined {n} xs front back long e f = ap (λ x. x ++ back) e ∙ ap (λ x. take n xs ++ x) f ∙ take-append-drop n xs
+cut_joined {n} xs front back long e f = rw (e, f) (take-append-drop n xs)
 
 first_chunks_joined : (n k : ℕ) (xs : List ℕ) → flat_map (λ b. b) (first_chunks n k xs) ++ drop (k * n) xs ≡ xs
 first_chunks_joined n zero xs =
@@ -60,5 +60,4 @@ first_chunks_joined n (suc k) xs =
 
 -- the chunks of a list, and what is left behind them
 pub chunks_joined : (n k : ℕ) (xs : List ℕ) (chunks : List (List ℕ)) (left : List ℕ) → chunks ≡ first_chunks n k xs → left ≡ drop (k * n) xs → flat_map (λ b. b) chunks ++ left ≡ xs
-chunks_joined n k xs chunks left front back =
-    ap (λ x. flat_map (λ b. b) x ++ left) front ∙ ap (λ x. flat_map (λ b. b) (first_chunks n k xs) ++ x) back ∙ first_chunks_joined n k xs
+chunks_joined n k xs chunks left front back = rw (front, back) (first_chunks_joined n k xs)

@@ -32,10 +32,7 @@ rounds_of_chunks (suc n) s ks ws k_long w_long =
 -- rounds in rows of eight
 pub rounds_by_rows : (n : ℕ) (s ks ws : List ℕ) (k_rows w_rows : List (List ℕ)) → k_rows ≡ first_chunks 8 n ks → w_rows ≡ first_chunks 8 n ws
     → length ks ≡ 8 * n → length ws ≡ 8 * n → fold row_rounds s (zip k_rows w_rows) ≡ rounds s ks ws
-rounds_by_rows n s ks ws k_rows w_rows k_is w_is k_long w_long =
-    ap (λ x. fold row_rounds s (zip x w_rows)) k_is
-    ∙ ap (λ x. fold row_rounds s (zip (first_chunks 8 n ks) x)) w_is
-    ∙ rounds_of_chunks n s ks ws k_long w_long
+rounds_by_rows n s ks ws k_rows w_rows k_is w_is k_long w_long = rw (k_is, w_is) (rounds_of_chunks n s ks ws k_long w_long)
 
 -- a list of eight is its elements
 eight : (w : List ℕ) → length w ≡ 8 → w ≡ map (λ i. get_or w i 0) (range_with_len 0 8)

@@ -33,10 +33,7 @@ both_taken s t u a b first second =
 pub held : (s t : Sha256) (bytes : List ℕ) → t.count ≡ (s.count + length bytes) % 2 ^ 64 → t.h ≡ s.h → waiting t ≡ waiting s ++ bytes → TakesIn s bytes t
 held s t bytes counted same wait = record {
   counted = counted;
-  absorbed = λ tail.
-      ap (λ h. hashed h (parsed (waiting t ++ tail))) same
-      ∙ ap (λ x. hashed s.h (parsed (x ++ tail))) wait
-      ∙ ap (λ x. hashed s.h (parsed x)) (append_assoc (waiting s) bytes tail);
+  absorbed = λ tail. rw (same, wait, append_assoc) refl;
 }
 
 -- bytes that fill a block, which is hashed
@@ -47,11 +44,7 @@ completed s t bytes counted full block long into =
     record {
       counted = counted;
       absorbed = λ tail.
-          ap (λ n. hashed t.h (parsed (take n t.block ++ tail))) empty
-          ∙ ap (λ h. hashed h (parsed tail)) into
-          ∙ sym (hashed_block s.h t.block tail long)
-          ∙ ap (λ x. hashed s.h (parsed (x ++ tail))) block
-          ∙ ap (λ x. hashed s.h (parsed x)) (append_assoc (waiting s) bytes tail);
+          rw (empty, into) (sym (hashed_block s.h t.block tail long) ∙ rw (block, append_assoc) refl);
     }
 
 -- whole blocks that are hashed where nothing waits
@@ -63,10 +56,7 @@ absorbed s t blocks none all long counted into =
     record {
       counted = counted;
       absorbed = λ tail.
-          ap (λ n. hashed t.h (parsed (take n t.block ++ tail))) empty
-          ∙ ap (λ h. hashed h (parsed tail)) (into ∙ hashed_fold s.h blocks)
-          ∙ sym (hashed_whole s.h blocks tail all)
-          ∙ ap (λ n. hashed s.h (parsed (take n s.block ++ (bytes ++ tail)))) (sym none);
+          rw (empty, none, into, hashed_fold) (sym (hashed_whole s.h blocks tail all));
     }
 
 -- once the padding has come in its two parts, nothing waits, and the hash value is what the digest is made of

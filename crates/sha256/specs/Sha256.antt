@@ -120,9 +120,7 @@ rounds s (k ∷ ks) (w ∷ ws) = rounds (round s k w) ks ws
 
 -- 6.2.2, step 4: the working variables and the hash value, added word by word
 abbrev pub sums : List ℕ → List ℕ → List ℕ
-sums s h =
-    add (slice_index s 0) (slice_index h 0) ∷ add (slice_index s 1) (slice_index h 1) ∷ add (slice_index s 2) (slice_index h 2) ∷ add (slice_index s 3) (slice_index h 3) ∷
-    add (slice_index s 4) (slice_index h 4) ∷ add (slice_index s 5) (slice_index h 5) ∷ add (slice_index s 6) (slice_index h 6) ∷ add (slice_index s 7) (slice_index h 7) ∷ []
+sums s h = map (λ i. add (slice_index s i) (slice_index h i)) (range_with_len 0 8)
 
 -- 6.2.2: the hash value after a block, with which the working variables begin (step 2), and after several blocks
 unfoldable pub compressed : List ℕ → List ℕ → List ℕ
