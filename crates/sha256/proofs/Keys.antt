@@ -1,5 +1,5 @@
 -- A hash that begins with the block of a key goes on from the hash value after that block.
-use Rattle.std.proofs.Common.{◌≡◌, ℕ, ◌+◌, List, ◌++◌, length, sym, ap, ◌∙◌, arith}
+use Rattle.std.proofs.Common.{◌≡◌, ℕ, ◌+◌, List, ◌++◌, length, sym, refl, ap, ◌∙◌, arith}
 use lib.Bits.{bit_xor}
 use Rattle.std.proofs.lemmas.List.{append_assoc, length-append, length-map}
 use Rattle.sha256.specs.Sha256.{H0, padding, parsed, compressed, hashed, digest_bytes, sha256}
@@ -12,9 +12,7 @@ digest_from_block : (b m : List ℕ) → length b ≡ 64 → digest_from (compre
 unfolding digest_from sha256
 digest_from_block b m long =
     let count : 64 + length m ≡ length (b ++ m) = simp length-append (omega arith) in
-    ap (λ n. digest_bytes (hashed (compressed H0 b) (parsed (m ++ padding n)))) count
-    ∙ ap digest_bytes (sym (hashed_block H0 b (m ++ padding (length (b ++ m))) long))
-    ∙ ap (λ x. digest_bytes (hashed H0 (parsed x))) (sym (append_assoc b m (padding (length (b ++ m)))))
+    rw (count, append_assoc) (ap digest_bytes (sym (hashed_block H0 b (m ++ padding (length (b ++ m))) long)))
 
 -- the block of a key against a pad is a block
 xored_long : (k : List ℕ) (pad : ℕ) → length k ≡ 64 → length (xored k pad) ≡ 64
@@ -25,7 +23,4 @@ xored_long k pad long = length-map k (λ b. bit_xor b pad) ∙ long
 pub tags_from : (k inner outer m : List ℕ) → length k ≡ 64 → inner ≡ compressed H0 (xored k ipad) → outer ≡ compressed H0 (xored k opad)
     → digest_from outer (digest_from inner m) ≡ sha256 (xored k opad ++ sha256 (xored k ipad ++ m))
 tags_from k inner outer m long i o =
-    ap (λ h. digest_from h (digest_from inner m)) o
-    ∙ digest_from_block (xored k opad) (digest_from inner m) (xored_long k opad long)
-    ∙ ap (λ h. sha256 (xored k opad ++ digest_from h m)) i
-    ∙ ap (λ d. sha256 (xored k opad ++ d)) (digest_from_block (xored k ipad) m (xored_long k ipad long))
+    rw (i, o) (digest_from_block (xored k opad) (digest_from (compressed H0 (xored k ipad)) m) (xored_long k opad long) ∙ rw (digest_from_block (xored k ipad) m (xored_long k ipad long)) refl)

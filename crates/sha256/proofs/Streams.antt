@@ -15,8 +15,7 @@ digest_after_taken s t bytes took rest =
     let counted = took.counted in
     let same : (t.count + length rest) % 2 ^ 64 ≡ (s.count + length (bytes ++ rest)) % 2 ^ 64 = simp length-append (omega arith) in
     ap digest_bytes (took.absorbed (rest ++ padding (t.count + length rest)))
-    ∙ ap (λ p. digest_bytes (hashed s.h (parsed (waiting s ++ (bytes ++ (rest ++ p)))))) (padding_mod (t.count + length rest) (s.count + length (bytes ++ rest)) same)
-    ∙ ap (λ x. digest_bytes (hashed s.h (parsed (waiting s ++ x)))) (sym (append_assoc bytes rest (padding (s.count + length (bytes ++ rest)))))
+    ∙ rw (padding_mod (t.count + length rest) (s.count + length (bytes ++ rest)) same, append_assoc) refl
 
 -- bytes that come in two parts
 pub both_taken : (s t u : Sha256) (a b : List ℕ) → TakesIn s a t → TakesIn t b u → TakesIn s (a ++ b) u
@@ -25,8 +24,7 @@ both_taken s t u a b first second =
     let more = second.counted in
     record {
       counted = simp length-append (omega arith);
-      absorbed = λ tail.
-          second.absorbed tail ∙ first.absorbed (b ++ tail) ∙ ap (λ x. hashed s.h (parsed (waiting s ++ x))) (sym (append_assoc a b tail));
+      absorbed = λ tail. rw append_assoc (second.absorbed tail ∙ first.absorbed (b ++ tail));
     }
 
 -- bytes that wait behind the others
@@ -69,13 +67,7 @@ finished s t u first last one two first_is last_is eight =
     let long : length first ≡ 1 + (119 - s.count % 64) % 64 = ap length first_is ∙ simp length-replicate (omega arith) in
     let all : length (first ++ last) ≡ 9 + (119 - s.count % 64) % 64 = simp length-append (omega arith) in
     let empty : u.count % 64 ≡ 0 = omega arith in
-    let parts : first ++ last ≡ padding (s.count + 0) =
-    ap (λ x. x ++ last) first_is
-    ∙ ap (λ x. 0x80 ∷ (replicate ((119 - s.count % 64) % 64) 0 ++ x)) last_is
-    ∙ ap padding (sym (add-zero s.count)) in
-    ap digest_bytes (
-    sym (hashed_short u.h [] refl)
-    ∙ ap (λ n. hashed u.h (parsed (take n u.block ++ []))) (sym empty)
-    ∙ both.absorbed []
-    ∙ ap (λ x. hashed s.h (parsed (waiting s ++ x))) (append-nil (first ++ last) ∙ parts)
-    )
+    let parts : first ++ last ≡ padding (s.count + 0) = rw (first_is, last_is, add-zero) refl in
+    let hashed_all : hashed u.h (parsed (waiting u ++ [])) ≡ hashed s.h (parsed (waiting s ++ padding (s.count + 0))) = both.absorbed [] ∙ rw (append-nil, parts) refl in
+    let done : u.h ≡ hashed u.h (parsed (waiting u ++ [])) = rw empty (sym (hashed_short u.h [] refl)) in
+    ap digest_bytes (done ∙ hashed_all)
