@@ -2,7 +2,7 @@
 use Rattle.std.proofs.Common.{◌≡◌, ℕ, ◌+◌, List, ◌++◌, length, sym, refl, ap, ◌∙◌, arith}
 use lib.Bits.{bit_xor}
 use Rattle.std.proofs.lemmas.List.{append_assoc, length-append, length-map}
-use Rattle.sha256.specs.Sha256.{H0, padding, parsed, compressed, hashed, digest_bytes, sha256}
+use Rattle.sha256.specs.Sha256.{H0, padding, compressed, digest_bytes, sha256}
 use Rattle.sha256.specs.Hmac.{ipad, opad, xored}
 use Rattle.sha256.specs.Progress.{digest_from}
 use Rattle.sha256.proofs.Parsing.{hashed_block}

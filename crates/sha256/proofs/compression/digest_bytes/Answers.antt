@@ -1,6 +1,5 @@
 -- The bytes of each word, one behind the other.
-use Rattle.std.proofs.Common.{◌≡◌, map, length, ap, ◌∙◌, rules}
-use Rattle.std.specs.List.{flat_map}
+use Rattle.std.proofs.Common.{◌≡◌, map, length, rules}
 use Rattle.std.proofs.lemmas.List.Folds.{flat_map-map}
 use Rattle.sha256.specs.Sha256.{be32, digest_bytes}
 use Rattle.sha256.proofs.Arrays.{map_of}
@@ -12,4 +11,4 @@ returns c =
     let h = c.args.h in
     let long : length h ≡ 8 = search rules in
     let words : c.map.result ≡ map be32 h = map_of _ _ be32 (λ x y q call. search rules) h c.map.result 8 c.map.ensures.items long in
-    c.copy_from_slice.ensures.after ∙ c.as_flattened.ensures.value ∙ ap (flat_map (λ x. x)) words ∙ flat_map-map (λ x. x) be32 h
+    rw (c.copy_from_slice.ensures.after, c.as_flattened.ensures.value, words) (flat_map-map (λ x. x) be32 h)

@@ -14,10 +14,7 @@ returns c =
     let block = put_mid start (64 - start) self.block new in
     let long : length self.block ≡ 64 = search rules in
     let none : drop (64 - start) (drop start self.block) ≡ [] = drop_all (64 - start) (drop start self.block) (simp length-drop (omega arith)) in
-    let whole : block ≡ take (self.count % 64) self.block ++ bytes =
-    ap (λ x. take start self.block ++ (new ++ x)) none
-    ∙ ap (λ x. take start self.block ++ x) (append-nil new ∙ c.copy_from_slice.ensures.after)
-    ∙ ap (λ n. take n self.block ++ bytes) c.fill-start.ensures in
+    let whole : block ≡ take (self.count % 64) self.block ++ bytes = rw (none, append-nil, c.copy_from_slice.ensures.after, c.fill-start.ensures) refl in
     let front : length (take (self.count % 64) self.block) ≡ self.count % 64 = length-take-le (self.count % 64) self.block (omega arith) in
     let full : length block ≡ 64 = ap length whole ∙ simp length-append (omega arith) in
     completed self _ bytes refl c.requires whole full c.compress-self.ensures

@@ -17,8 +17,5 @@ returns c =
     let end : (self.count + length bytes) % 2 ^ 64 % 64 ≡ start + length bytes = omega arith in
     let room : start ≤ length self.block = search rules in
     let wait : take ((self.count + length bytes) % 2 ^ 64 % 64) block ≡ take (self.count % 64) self.block ++ bytes =
-    ap (λ n. take n block) end
-    ∙ take-put_mid start (start + length bytes - start) self.block new (start + length bytes) (omega arith) room
-    ∙ ap (λ x. take start self.block ++ x) copied
-    ∙ ap (λ n. take n self.block ++ bytes) c.fill-start.ensures in
+    rw end (take-put_mid start (start + length bytes - start) self.block new (start + length bytes) (omega arith) room ∙ rw (copied, c.fill-start.ensures) refl) in
     held self _ bytes refl refl wait

@@ -1,5 +1,5 @@
 -- The three parts of the bytes, one behind the other, are the bytes.
-use Rattle.std.proofs.Common.{◌≡◌, ◌/◌, ◌++◌, length, subst, ap, ◌∙◌}
+use Rattle.std.proofs.Common.{◌≡◌, ◌/◌, ◌++◌, length, subst}
 use Rattle.std.specs.List.{flat_map}
 use Rattle.sha256.specs.Progress.{TakesIn}
 use Rattle.sha256.proofs.Streams.{both_taken}
@@ -18,6 +18,5 @@ returns-in-Some c =
     let split = c.in-Some.ensures.cases in
     let behind = both_taken _ _ _ _ _ c.absorb.ensures.taken c.hold-in-Some.ensures in
     let all = both_taken self _ _ first _ c.complete.ensures behind in
-    let whole : first ++ (flat_map (λ b. b) blocks ++ last) ≡ bytes =
-    ap (λ x. first ++ x) joined ∙ cut_joined bytes first others split.0 split.1 split.2 in
+    let whole : first ++ (flat_map (λ b. b) blocks ++ last) ≡ bytes = rw joined (cut_joined bytes first others split.0 split.1 split.2) in
     subst (λ x. TakesIn self x c.hold-in-Some.new.self) whole all
