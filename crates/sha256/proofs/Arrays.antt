@@ -32,4 +32,4 @@ module _ {F B : Type 0} (g : Mut F (ℕ × Unit {0}) B) (f : F) (h : ℕ → B) 
   pub map_of : (xs : List ℕ) (ys : List B) (n : ℕ) → IsMapOf g f xs ys n → length xs ≡ n → ys ≡ map h xs
   map_of xs ys n maps long =
       same_lists ys (map h xs) (maps.long ∙ sym long ∙ sym (length-map xs h))
-      (λ k e below. mapped_at xs ys n 0 k k e maps.each (subst (λ m. k < m) maps.long below) (omega arith) ∙ sym (get_or-map h xs k 0 e (subst (λ m. k < m) (maps.long ∙ sym long) below)))
+      (λ k e below. mapped_at xs ys n 0 k k e maps.each (rw (← maps.long) below) (omega arith) ∙ sym (get_or-map h xs k 0 e (rw (long, ← maps.long) below)))

@@ -1,5 +1,5 @@
 -- A hash that begins with the block of a key goes on from the hash value after that block.
-use Rattle.std.proofs.Common.{◌≡◌, ℕ, ◌+◌, List, ◌++◌, length, sym, refl, ap, ◌∙◌, arith}
+use Rattle.std.proofs.Common.{◌≡◌, ℕ, ◌+◌, List, ◌++◌, length, sym, ap, ◌∙◌, arith}
 use lib.Bits.{bit_xor}
 use Rattle.std.proofs.lemmas.List.{append_assoc, length-append, length-map}
 use Rattle.sha256.specs.Sha256.{H0, padding, compressed, digest_bytes, sha256}
@@ -23,4 +23,5 @@ xored_long k pad long = length-map k (λ b. bit_xor b pad) ∙ long
 pub tags_from : (k inner outer m : List ℕ) → length k ≡ 64 → inner ≡ compressed H0 (xored k ipad) → outer ≡ compressed H0 (xored k opad)
     → digest_from outer (digest_from inner m) ≡ sha256 (xored k opad ++ sha256 (xored k ipad ++ m))
 tags_from k inner outer m long i o =
-    rw (i, o) (digest_from_block (xored k opad) (digest_from (compressed H0 (xored k ipad)) m) (xored_long k opad long) ∙ rw (digest_from_block (xored k ipad) m (xored_long k ipad long)) refl)
+    let inner_is = digest_from_block (xored k ipad) m (xored_long k ipad long) in
+    rw (i, o, inner_is) (digest_from_block (xored k opad) (sha256 (xored k ipad ++ m)) (xored_long k opad long))

@@ -59,5 +59,6 @@ first_chunks_joined n (suc k) xs =
     ∙ take-append-drop n xs
 
 -- the chunks of a list, and what is left behind them
-pub chunks_joined : (n k : ℕ) (xs : List ℕ) (chunks : List (List ℕ)) (left : List ℕ) → chunks ≡ first_chunks n k xs → left ≡ drop (k * n) xs → flat_map (λ b. b) chunks ++ left ≡ xs
+pub chunks_joined : (n k : ℕ) (xs : List ℕ) (chunks : List (List ℕ)) (left : List ℕ)
+    → chunks ≡ first_chunks n k xs → left ≡ drop (k * n) xs → flat_map (λ b. b) chunks ++ left ≡ xs
 chunks_joined n k xs chunks left front back = rw (front, back) (first_chunks_joined n k xs)

@@ -18,13 +18,15 @@ rounds_append s (k ∷ ks) ls (w ∷ ws) vs e = rounds_append (round s k w) ks l
 abbrev pub row_rounds : List ℕ → List ℕ × List ℕ → List ℕ
 row_rounds s rows = rounds s rows.0 rows.1
 
-rounds_of_chunks : (n : ℕ) (s ks ws : List ℕ) → length ks ≡ 8 * n → length ws ≡ 8 * n → fold row_rounds s (zip (first_chunks 8 n ks) (first_chunks 8 n ws)) ≡ rounds s ks ws
+rounds_of_chunks : (n : ℕ) (s ks ws : List ℕ) → length ks ≡ 8 * n → length ws ≡ 8 * n
+    → fold row_rounds s (zip (first_chunks 8 n ks) (first_chunks 8 n ws)) ≡ rounds s ks ws
 unfolding rounds
 rounds_of_chunks zero s [] ws k_long w_long = refl
 rounds_of_chunks zero s (k ∷ ks) ws k_long w_long = absurd (omega arith)
 rounds_of_chunks (suc n) s ks ws k_long w_long =
     let same : length (take 8 ks) ≡ length (take 8 ws) = length-take-le 8 ks (omega arith) ∙ sym (length-take-le 8 ws (omega arith)) in
-    rounds_of_chunks n (rounds s (take 8 ks) (take 8 ws)) (drop 8 ks) (drop 8 ws) (simp length-drop (omega arith)) (simp length-drop (omega arith))
+    rounds_of_chunks n (rounds s (take 8 ks) (take 8 ws)) (drop 8 ks) (drop 8 ws) (simp length-drop (omega arith))
+    (simp length-drop (omega arith))
     ∙ sym (rounds_append s (take 8 ks) (drop 8 ks) (take 8 ws) (drop 8 ws) same)
     ∙ ap (λ x. rounds s x (take 8 ws ++ drop 8 ws)) (take-append-drop 8 ks)
     ∙ ap (λ x. rounds s ks x) (take-append-drop 8 ws)

@@ -46,7 +46,8 @@ completed s t bytes counted full block long into =
     }
 
 -- whole blocks that are hashed where nothing waits
-pub absorbed : (s t : Sha256) (blocks : List (List ℕ)) → s.count % 64 ≡ 0 → ((k : ℕ) → k < length blocks → length (get_or blocks k []) ≡ 64) → length (flat_map (λ b. b) blocks) ≡ length blocks * 64
+pub absorbed : (s t : Sha256) (blocks : List (List ℕ)) → s.count % 64 ≡ 0 → ((k : ℕ) → k < length blocks → length (get_or blocks k []) ≡ 64)
+    → length (flat_map (λ b. b) blocks) ≡ length blocks * 64
     → t.count ≡ (s.count + length (flat_map (λ b. b) blocks)) % 2 ^ 64 → t.h ≡ fold compressed s.h blocks → TakesIn s (flat_map (λ b. b) blocks) t
 absorbed s t blocks none all long counted into =
     let bytes : List ℕ = flat_map (λ b. b) blocks in
@@ -68,6 +69,7 @@ finished s t u first last one two first_is last_is eight =
     let all : length (first ++ last) ≡ 9 + (119 - s.count % 64) % 64 = simp length-append (omega arith) in
     let empty : u.count % 64 ≡ 0 = omega arith in
     let parts : first ++ last ≡ padding (s.count + 0) = rw (first_is, last_is, add-zero) refl in
-    let hashed_all : hashed u.h (parsed (waiting u ++ [])) ≡ hashed s.h (parsed (waiting s ++ padding (s.count + 0))) = both.absorbed [] ∙ rw (append-nil, parts) refl in
+    let hashed_all : hashed u.h (parsed (waiting u ++ [])) ≡ hashed s.h (parsed (waiting s ++ padding (s.count + 0))) =
+    both.absorbed [] ∙ rw (append-nil, parts) refl in
     let done : u.h ≡ hashed u.h (parsed (waiting u ++ [])) = rw empty (sym (hashed_short u.h [] refl)) in
     ap digest_bytes (done ∙ hashed_all)

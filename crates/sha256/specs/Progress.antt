@@ -23,7 +23,8 @@ digest_after s rest = digest_bytes (hashed s.h (parsed (remaining s rest)))
 -- what it gave behind the bytes
 pub record TakesIn (s : Sha256) (bytes : List ℕ) (t : Sha256) : Type 0 where
   pub counted : t.count ≡ (s.count + length bytes) % 2 ^ 64
-  pub absorbed : (tail : List ℕ) → hashed t.h (parsed (waiting t ++ tail)) ≡ hashed s.h (parsed (waiting s ++ (bytes ++ tail)))
+  pub absorbed : (tail : List ℕ)
+      → hashed t.h (parsed (waiting t ++ tail)) ≡ hashed s.h (parsed (waiting s ++ (bytes ++ tail)))
 
 -- the digest of a message of which one block has gone into the hash value h, and m is what follows
 unfoldable pub digest_from : List ℕ → List ℕ → List ℕ

@@ -74,7 +74,9 @@ parsed m = blocks (length m / 64) m
 
 -- 5.2.1: word i of a block, and the sixteen of them
 unfoldable pub word : List ℕ → ℕ → ℕ
-word m i = slice_index m (4 * i) * 2 ^ 24 + slice_index m (4 * i + 1) * 2 ^ 16 + slice_index m (4 * i + 2) * 2 ^ 8 + slice_index m (4 * i + 3)
+word m i =
+    slice_index m (4 * i) * 2 ^ 24 + slice_index m (4 * i + 1) * 2 ^ 16 + slice_index m (4 * i + 2) * 2 ^ 8
+    + slice_index m (4 * i + 3)
 
 unfoldable pub words : List ℕ → List ℕ
 words m = map (word m) (range_with_len 0 16)
@@ -88,7 +90,9 @@ unfoldable pub scheduled : ℕ → ℕ → ℕ → ℕ → ℕ
 scheduled w2 w7 w15 w16 = add (add (add (σ1 w2) w7) (σ0 w15)) w16
 
 abbrev pub next : List ℕ → ℕ
-next w = let t = length w in scheduled (slice_index w (t - 2)) (slice_index w (t - 7)) (slice_index w (t - 15)) (slice_index w (t - 16))
+next w =
+    let t = length w in
+    scheduled (slice_index w (t - 2)) (slice_index w (t - 7)) (slice_index w (t - 15)) (slice_index w (t - 16))
 
 -- n words more
 unfoldable pub extended : ℕ → List ℕ → List ℕ

@@ -19,6 +19,7 @@ returns c =
     let k_is : k_rows ≡ first_chunks 8 8 K = unfold K in c.as_chunks.ensures.front in
     let w_is : w_rows ≡ first_chunks 8 8 w = c.as_chunks-2.ensures.front ∙ ap (λ n. first_chunks 8 (n / 8) w) w_long in
     let folded : c.fold-s.result ≡ fold row_rounds h (zip k_rows w_rows) =
-    fold_from_yields_List _ row_rounds h _ c.fold-s.ensures.ran (YieldsList-from_zip (YieldsList-from_slice k_rows (cc)) (YieldsList-from_slice w_rows (cc))) (λ a x b q called. search rules) in
+    fold_from_yields_List _ row_rounds h _ c.fold-s.ensures.ran
+    (YieldsList-from_zip (YieldsList-from_slice k_rows (cc)) (YieldsList-from_slice w_rows (cc))) (λ a x b q called. search rules) in
     let all = folded ∙ rounds_by_rows 8 h K w k_rows w_rows k_is w_is (unfold K in refl) w_long ∙ ap (rounds h K) c.message_schedule-w.ensures in
     c.added.ensures ∙ ap (λ s. sums s h) all
