@@ -1,15 +1,8 @@
 // The functions of words that SHA-256 is made of (FIPS 180-4, 3.2 and 4.1.2).
-ghost use Rattle.std.specs.Prelude.{◌≡◌, ◌<◌};
-ghost use Rattle.sha256.specs.Sha256.{rotr, ch, maj, Σ0, Σ1, σ0, σ1};
+#![tactic(auto, unfolding(crate::specs::Sha256::rotr))]
 
-/// The rotation of a word by n places to the right.
-#[tactic(auto, unfolding(crate::specs::Sha256::rotr))]
-fn rotate(n: u32, x: u32) -> u32
-    requires { (0 < n) × (n < 32) }
-    ensures { result ≡ rotr n x }
-{
-    x.rotate_right(n)
-}
+ghost use Rattle.std.specs.Prelude.{◌≡◌};
+ghost use Rattle.sha256.specs.Sha256.{ch, maj, Σ0, Σ1, σ0, σ1};
 
 /// Ch: each bit of x chooses between those of y and z.
 pub(crate) fn choose(x: u32, y: u32, z: u32) -> u32
@@ -29,26 +22,26 @@ pub(crate) fn majority(x: u32, y: u32, z: u32) -> u32
 pub(crate) fn big_sigma0(x: u32) -> u32
     ensures { result ≡ Σ0 x }
 {
-    rotate(2, x) ^ rotate(13, x) ^ rotate(22, x)
+    x.rotate_right(2) ^ x.rotate_right(13) ^ x.rotate_right(22)
 }
 
 /// Σ1.
 pub(crate) fn big_sigma1(x: u32) -> u32
     ensures { result ≡ Σ1 x }
 {
-    rotate(6, x) ^ rotate(11, x) ^ rotate(25, x)
+    x.rotate_right(6) ^ x.rotate_right(11) ^ x.rotate_right(25)
 }
 
 /// σ0.
 pub(crate) fn small_sigma0(x: u32) -> u32
     ensures { result ≡ σ0 x }
 {
-    rotate(7, x) ^ rotate(18, x) ^ (x >> 3)
+    x.rotate_right(7) ^ x.rotate_right(18) ^ (x >> 3)
 }
 
 /// σ1.
 pub(crate) fn small_sigma1(x: u32) -> u32
     ensures { result ≡ σ1 x }
 {
-    rotate(17, x) ^ rotate(19, x) ^ (x >> 10)
+    x.rotate_right(17) ^ x.rotate_right(19) ^ (x >> 10)
 }
