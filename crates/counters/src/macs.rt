@@ -10,7 +10,7 @@ ghost use Rattle.std.proofs.lemmas.List.{length-append};
 
 use aes::CmacKey;
 use sha256::HmacKey;
-use streams::in_two_parts;
+use streams::Stream;
 use terms::TAG_BYTES;
 
 /// A tag function with its key ready.
@@ -56,10 +56,7 @@ impl Mac for HmacSha256 {
     }
 
     fn tag(&self, head: &[u8], rest: &[u8]) -> [u8; TAG_BYTES] {
-        let mut tag = self.key.start();
-        tag.update(head);
-        tag.update(rest);
-        tag.finish()
+        self.key.start().with(head).with(rest).finish()
     }
 }
 
@@ -87,7 +84,7 @@ impl Mac for AesCmac {
 
     fn tag(&self, head: &[u8], rest: &[u8]) -> [u8; TAG_BYTES] {
         let mut whole = [0; TAG_BYTES];
-        whole[0..16].copy_from_slice(&in_two_parts(self.key.start(), head, rest));
+        whole[0..16].copy_from_slice(&self.key.start().with(head).with(rest).finish());
         whole
     }
 }

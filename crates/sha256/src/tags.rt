@@ -84,9 +84,7 @@ impl HmacKey {
     pub fn tag(&self, bytes: &[u8]) -> [u8; 32]
         ensures { result ≡ tag_under self.now bytes.now }
     {
-        let mut tag = self.start();
-        tag.update(bytes);
-        tag.finish()
+        self.start().with(bytes).finish()
     }
 }
 
@@ -102,8 +100,6 @@ impl Stream for Hmac {
 
     fn finish(self) -> [u8; 32] {
         let inner = self.inner.finish();
-        let mut outer = Sha256::after_block(self.outer);
-        outer.update(&inner);
-        outer.finish()
+        Sha256::after_block(self.outer).with(&inner).finish()
     }
 }

@@ -15,17 +15,16 @@ pub trait Stream: Sized {
     fn update(&mut self, bytes: &[u8])
         ensures { (rest : List ℕ) → after self.new rest ≡ after self.old (bytes.now ++ rest) };
 
+    /// The same with the bytes taken in.
+    final fn with(self, bytes: &[u8]) -> Self
+        ensures { (rest : List ℕ) → after result rest ≡ after self (bytes.now ++ rest) }
+    {
+        let mut stream = self;
+        stream.update(bytes);
+        stream
+    }
+
     /// The result for the bytes that have come.
     fn finish(self) -> Self::Output
         ensures { result ≡ after self [] };
-}
-
-/// The result for two parts that follow one another.
-pub fn in_two_parts<S: Stream>(stream: S, first: &[u8], second: &[u8]) -> S::Output
-    ensures { result ≡ S.after stream (first.now ++ second.now) }
-{
-    let mut stream = stream;
-    stream.update(first);
-    stream.update(second);
-    stream.finish()
 }

@@ -3,4 +3,4 @@
 
 mod contract;
 
-pub use contract::{Stream, in_two_parts};
+pub use contract::Stream;
