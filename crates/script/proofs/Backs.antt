@@ -1,16 +1,15 @@
 -- What is written reads as itself.
-use Rattle.std.proofs.Common.{◌≡◌, ℕ, ◌<◌, true, List, [], ◌∷◌, map, Some, Ok, decimal, refl, ap, ◌∙◌, arith, lit<}
+use Rattle.std.proofs.Common.{◌≡◌, ℕ, ◌<◌, true, false, List, [], ◌∷◌, map, Some, Ok, decimal, refl, ap, ◌∙◌, arith, lit<}
 use Rattle.std.proofs.lemmas.Bool.{and_parts}
 use Rattle.std.proofs.lemmas.Bool.Decides.{nat_tests}
 use Rattle.std.specs.Char.{is_ascii_digit}
 use Rattle.std.specs.List.{AllByRecursion}
 use Rattle.std.specs.Str.{all_ascii_digits}
-use Rattle.script.specs.Cutting.{belongs, words_of, IsWord}
+use Rattle.script.specs.Cutting.{ends_word, words_of, IsWord}
 use Rattle.script.specs.Entries.{entry_of, numbers_of, EntriesReadBack}
 use Rattle.script.specs.Headers.{HeadersReadBack}
 use Rattle.script.specs.Keywords.{spelling, spelt}
 use Rattle.script.specs.Numerals.{number_bound, number_of}
-use Rattle.script.specs.declared.cutting.Run.TheVariants.{Word}
 use Rattle.script.specs.declared.entries.Entry.TheVariants.{Apply}
 use Rattle.script.specs.declared.headers.Header.TheVariants.{Register}
 use Rattle.script.specs.declared.headers.ServiceKind.TheVariants.{Glyphs, Release, SessionsGlyphs, SessionsRelease}
@@ -25,10 +24,10 @@ headers_read_back (Register Release) = refl
 headers_read_back (Register SessionsGlyphs) = refl
 headers_read_back (Register SessionsRelease) = refl
 
-digit_in_word : (d : ℕ) → is_ascii_digit d ≡ true → belongs Word d ≡ true
+digit_in_word : (d : ℕ) → is_ascii_digit d ≡ true → ends_word d ≡ false
 digit_in_word d digit = grind (arith, nat_tests)
 
-digits_in_word : (ds : List ℕ) → all_ascii_digits ds ≡ true → AllByRecursion (λ b. belongs Word b ≡ true) ds
+digits_in_word : (ds : List ℕ) → all_ascii_digits ds ≡ true → AllByRecursion (λ b. ends_word b ≡ false) ds
 digits_in_word [] digits = tt
 digits_in_word (d ∷ ds) digits =
     let both = and_parts (is_ascii_digit d) (all_ascii_digits ds) digits in

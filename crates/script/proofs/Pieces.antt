@@ -1,18 +1,18 @@
 -- The words of a line, one after the other.
 use Rattle.std.proofs.Common.{◌≡◌, ℕ, ◌<◌, true, false, cond, List, [], ◌∷◌, ◌++◌, length, refl, ap, ◌∙◌, ⊎_elim, arith}
-use Rattle.std.proofs.lemmas.List.{append-nil}
 use Rattle.std.proofs.lemmas.Bool.{cases_Bool, both_ways}
 use Rattle.std.proofs.lemmas.Bool.Decides.{nat_tests}
-use Rattle.std.specs.List.{AllByRecursion}
-use Rattle.script.specs.Cutting.{is_blank, is_hash, belongs, front, behind, uncommented, pieces, full, words_of, behind_blank, IsWord, WordsCutBack}
-use Rattle.script.specs.declared.cutting.Run.TheVariants.{Blanks, Word}
-use Rattle.script.proofs.Runs.{front_on, front_off, behind_on, behind_off}
+use Rattle.std.proofs.lemmas.List.Elements.{All-from_recursion, All-nil, All-cons, All-append, All-weaker}
+use Rattle.std.proofs.lemmas.List.Splits.{slice_split_none, slice_split_at}
+use Rattle.std.specs.List.{All, AllByRecursion, before_first, slice_split, join_with_byte}
+use Rattle.script.specs.Cutting.{is_blank, not_blank, is_hash, ends_word, from_first, full, words_of, IsWord, WordsCutBack}
+use Rattle.script.proofs.Runs.{before_on, before_off, from_on, from_off, before_all}
 
 -- what a byte is to a word: a part of it, or the comment or the blank that ends it
 data Kind (b : ℕ) : Type 0 where
-  part : belongs Word b ≡ true → is_blank b ≡ false → is_hash b ≡ false → Kind b
-  comment : belongs Word b ≡ false → is_blank b ≡ false → is_hash b ≡ true → Kind b
-  gap : belongs Word b ≡ false → is_blank b ≡ true → is_hash b ≡ false → Kind b
+  part : ends_word b ≡ false → is_blank b ≡ false → is_hash b ≡ false → Kind b
+  comment : ends_word b ≡ true → is_blank b ≡ false → is_hash b ≡ true → Kind b
+  gap : ends_word b ≡ true → is_blank b ≡ true → is_hash b ≡ false → Kind b
 
 kind : (b : ℕ) → Kind b
 kind b =
@@ -25,37 +25,41 @@ kind b =
     (cases_Bool (is_hash b)))
     (cases_Bool (is_blank b))
 
+-- a line without its comment, cut at every blank
+abbrev pieces : List ℕ → List (List ℕ)
+pieces line = slice_split is_blank (before_first is_hash line)
+
 -- blanks in front make no words
-skip : (s : List ℕ) → full (pieces (uncommented s)) ≡ full (pieces (uncommented (behind Blanks s)))
+skip : (s : List ℕ) → full (pieces s) ≡ full (pieces (from_first not_blank s))
 skip [] = refl
 skip (b ∷ bs) = elim (kind b) [
-  | part _ solid _ ↦ rw behind_off refl
-  | comment _ solid _ ↦ rw behind_off refl
-  | gap _ blank plain ↦ rw behind_on (simp (plain, blank) (skip bs))
+  | part _ solid _ ↦ simp solid
+  | comment _ solid _ ↦ simp solid
+  | gap _ blank plain ↦ rw (before_on is_hash b bs plain, from_on not_blank b bs (simp blank)) (simp blank (skip bs))
 ]
 
 -- the pieces behind a word, by the byte that ends it
 unfoldable later : List ℕ → List (List ℕ)
 later [] = []
-later (b ∷ bs) = cond (is_hash b) [] (pieces (uncommented bs))
+later (b ∷ bs) = cond (is_hash b) [] (pieces bs)
 
-first_piece : (s : List ℕ) → pieces (uncommented s) ≡ front Word s ∷ later (behind Word s)
+first_piece : (s : List ℕ) → pieces s ≡ before_first ends_word s ∷ later (from_first ends_word s)
 unfolding later
 first_piece [] = refl
 first_piece (b ∷ bs) = elim (kind b) [
-  | part on solid plain ↦ rw (front_on, behind_on) (simp (plain, solid, first_piece bs))
-  | comment off solid hash ↦ rw (front_off, behind_off) (simp hash)
-  | gap off blank plain ↦ rw (front_off, behind_off) (simp (plain, blank))
+  | part on solid plain ↦ rw (before_on is_hash b bs plain, before_on ends_word b bs on, from_on ends_word b bs on) (simp (solid, first_piece bs))
+  | comment off solid hash ↦ rw (before_off is_hash b bs hash, before_off ends_word b bs off, from_off ends_word b bs off) (simp hash)
+  | gap off blank plain ↦ rw (before_on is_hash b bs plain, before_off ends_word b bs off, from_off ends_word b bs off) (simp (plain, blank))
 ]
 
 -- a word's end makes no word of its own
-later_words : (s : List ℕ) → full (later (behind Word s)) ≡ full (pieces (uncommented (behind Word s)))
+later_words : (s : List ℕ) → full (later (from_first ends_word s)) ≡ full (pieces (from_first ends_word s))
 unfolding later
 later_words [] = refl
 later_words (b ∷ bs) = elim (kind b) [
-  | part on solid plain ↦ rw behind_on (later_words bs)
-  | comment off solid hash ↦ rw behind_off (simp hash)
-  | gap off blank plain ↦ rw behind_off (simp (plain, blank))
+  | part on solid plain ↦ rw (from_on ends_word b bs on) (later_words bs)
+  | comment off solid hash ↦ rw (from_off ends_word b bs off) (simp hash)
+  | gap off blank plain ↦ rw (from_off ends_word b bs off, before_on is_hash b bs plain) (simp (plain, blank))
 ]
 
 -- a piece that is not empty is a word
@@ -64,49 +68,52 @@ full_on [] ps some = absurd (omega arith)
 full_on (b ∷ bs) ps some = refl
 
 -- behind the blanks of a line: no word, or one and the rest of the words
-pub no_word : (line : List ℕ) → length (front Word (behind Blanks line)) ≡ 0 → words_of line ≡ []
+pub no_word : (line : List ℕ) → length (before_first ends_word (from_first not_blank line)) ≡ 0 → words_of line ≡ []
 unfolding words_of
 no_word [] none = refl
 no_word (b ∷ bs) none = elim (kind b) [
-  | part on solid plain ↦ absurd (omega (arith, rw (behind_off, front_on) at none))
+  | part on solid plain ↦ absurd (omega (arith, rw (from_off not_blank b bs (simp solid), before_on ends_word b bs on) at none))
   | comment off solid hash ↦ simp hash
-  | gap off blank plain ↦ simp (plain, blank) (no_word bs (rw behind_on at none))
+  | gap off blank plain ↦ rw (before_on is_hash b bs plain) (simp blank (no_word bs (rw (from_on not_blank b bs (simp blank)) at none)))
 ]
 
-pub one_word : (line : List ℕ) → 0 < length (front Word (behind Blanks line)) → words_of line ≡ front Word (behind Blanks line) ∷ words_of (behind Word (behind Blanks line))
+pub one_word : (line : List ℕ) → 0 < length (before_first ends_word (from_first not_blank line))
+    → words_of line ≡ before_first ends_word (from_first not_blank line) ∷ words_of (from_first ends_word (from_first not_blank line))
 unfolding words_of
 one_word line some =
-    let rest = behind Blanks line in
-    skip line ∙ ap full (first_piece rest) ∙ full_on (front Word rest) (later (behind Word rest)) some ∙ ap (λ (ws : List (List ℕ)). front Word rest ∷ ws) (later_words rest)
+    let rest = from_first not_blank line in
+    skip line ∙ ap full (first_piece rest) ∙ full_on (before_first ends_word rest) (later (from_first ends_word rest)) some
+    ∙ ap (λ (ws : List (List ℕ)). before_first ends_word rest ∷ ws) (later_words rest)
 
--- a word in front of more text
-uncommented_on : (w text : List ℕ) → AllByRecursion (λ b. belongs Word b ≡ true) w → uncommented (w ++ text) ≡ w ++ uncommented text
-uncommented_on [] text each = refl
-uncommented_on (b ∷ bs) text each = elim (kind b) [
-  | part on solid plain ↦ simp (plain, uncommented_on bs text each.1)
-  | comment off solid hash ↦ absurd (both_ways (belongs Word b) off each.0)
-  | gap off blank plain ↦ absurd (both_ways (belongs Word b) off each.0)
-]
+-- no byte of a word is a blank or a comment's beginning
+solid_word : (w : List ℕ) → IsWord w → All (λ b. is_blank b ≡ false) w
+solid_word w word = All-weaker (λ b. ends_word b ≡ false) _ (λ b on. elim (kind b) [
+  | part _ solid _ ↦ solid
+  | comment off _ _ ↦ absurd (both_ways (ends_word b) on off)
+  | gap off _ _ ↦ absurd (both_ways (ends_word b) on off)
+]) w (All-from_recursion _ w word.1)
 
-pieces_on : (w text piece : List ℕ) (ps : List (List ℕ)) → AllByRecursion (λ b. belongs Word b ≡ true) w → pieces text ≡ piece ∷ ps → pieces (w ++ text) ≡ (w ++ piece) ∷ ps
-pieces_on [] text piece ps each e = e
-pieces_on (b ∷ bs) text piece ps each e = elim (kind b) [
-  | part on solid plain ↦ simp (solid, pieces_on bs text piece ps each.1 e)
-  | comment off solid hash ↦ absurd (both_ways (belongs Word b) off each.0)
-  | gap off blank plain ↦ absurd (both_ways (belongs Word b) off each.0)
-]
+plain_word : (w : List ℕ) → IsWord w → All (λ b. is_hash b ≡ false) w
+plain_word w word = All-weaker (λ b. ends_word b ≡ false) _ (λ b on. elim (kind b) [
+  | part _ _ plain ↦ plain
+  | comment off _ _ ↦ absurd (both_ways (ends_word b) on off)
+  | gap off _ _ ↦ absurd (both_ways (ends_word b) on off)
+]) w (All-from_recursion _ w word.1)
 
--- words, each behind one blank
-uncommented_words : (blank : ℕ) (ws : List (List ℕ)) → is_blank blank ≡ true → AllByRecursion IsWord ws → uncommented (behind_blank blank ws) ≡ behind_blank blank ws
-uncommented_words blank [] gap' each = refl
-uncommented_words blank (w ∷ ws) gap' each =
-    let plain : is_hash blank ≡ false = grind (arith, nat_tests) in
-    simp (plain, uncommented_on w (behind_blank blank ws) each.0.1, uncommented_words blank ws gap' each.1)
+-- words with one blank between them: none is a comment, and they are the pieces
+module _ (blank : ℕ) (is : is_blank blank ≡ true) where
+  plain_words : (ws : List (List ℕ)) → AllByRecursion IsWord ws → All (λ b. is_hash b ≡ false) (join_with_byte blank ws)
+  plain_words [] each = All-nil _
+  plain_words (w ∷ []) each = plain_word w each.0
+  plain_words (w ∷ v ∷ ws) each =
+      let plain : is_hash blank ≡ false = grind (arith, nat_tests) in
+      All-append (λ b. is_hash b ≡ false) w (blank ∷ join_with_byte blank (v ∷ ws)) (plain_word w each.0) (All-cons (λ b. is_hash b ≡ false) blank (join_with_byte blank (v ∷ ws)) plain (plain_words (v ∷ ws) each.1))
 
-pieces_words : (blank : ℕ) (ws : List (List ℕ)) → is_blank blank ≡ true → AllByRecursion IsWord ws → pieces (behind_blank blank ws) ≡ [] ∷ ws
-pieces_words blank [] gap' each = refl
-pieces_words blank (w ∷ ws) gap' each =
-    simp (gap', pieces_on w (behind_blank blank ws) [] ws each.0.1 (pieces_words blank ws gap' each.1), append-nil)
+  cut_words : (w : List ℕ) (ws : List (List ℕ)) → AllByRecursion IsWord (w ∷ ws) → slice_split is_blank (join_with_byte blank (w ∷ ws)) ≡ w ∷ ws
+  cut_words w [] each = slice_split_none is_blank w (solid_word w each.0)
+  cut_words w (v ∷ ws) each =
+      slice_split_at is_blank w blank (join_with_byte blank (v ∷ ws)) (solid_word w each.0) is
+      ∙ ap (λ (vs : List (List ℕ)). w ∷ vs) (cut_words v ws each.1)
 
 full_words : (ws : List (List ℕ)) → AllByRecursion IsWord ws → full ws ≡ ws
 full_words [] each = refl
@@ -114,7 +121,7 @@ full_words (w ∷ ws) each = full_on w ws each.0.0 ∙ ap (λ (vs : List (List �
 
 pub words_cut_back : WordsCutBack
 unfolding words_of
-words_cut_back blank [] gap' each = refl
-words_cut_back blank (w ∷ ws) gap' each =
-    let apart = pieces_on w (behind_blank blank ws) [] ws each.0.1 (pieces_words blank ws gap' each.1) in
-    simp (uncommented_on w (behind_blank blank ws) each.0.1, uncommented_words blank ws gap' each.1, apart, append-nil) (full_words (w ∷ ws) each)
+words_cut_back blank [] is each = refl
+words_cut_back blank (w ∷ ws) is each =
+    ap (λ line. full (slice_split is_blank line)) (before_all is_hash _ (plain_words blank is (w ∷ ws) each))
+    ∙ ap full (cut_words blank is w ws each) ∙ full_words (w ∷ ws) each

@@ -1,22 +1,19 @@
 -- The lines of a text, one after the other.
-use Rattle.std.proofs.Common.{◌≡◌, ℕ, ◌<◌, true, false, List, [], ◌∷◌, ◌++◌, length, drop, refl, ap, ◌∙◌, ⊎_elim, arith}
+use Rattle.std.proofs.Common.{◌≡◌, ℕ, ◌<◌, true, false, List, [], ◌∷◌, ◌++◌, length, refl, ap, ◌∙◌, ⊎_elim, arith}
 use Rattle.std.proofs.lemmas.List.{append_assoc}
 use Rattle.std.proofs.lemmas.Bool.{cases_Bool}
-use Rattle.std.specs.List.{AllByRecursion}
-use Rattle.script.specs.Cutting.{is_line_end, belongs, front, behind, onto, lines_of, ended, LinesCutBack}
-use Rattle.script.specs.declared.cutting.Run.TheVariants.{Line}
-use Rattle.script.proofs.Runs.{front_on, front_off, behind_on, behind_off}
+use Rattle.std.specs.List.{before_first, after_first, onto_first, AllByRecursion}
+use Rattle.script.specs.Cutting.{is_line_end, lines_of, ended, LinesCutBack}
+use Rattle.script.proofs.Runs.{before_on, after_on}
 
 -- a byte in front of a line
-longer : (b : ℕ) (bs : List ℕ) → onto b (lines_of bs) ≡ (b ∷ front Line bs) ∷ lines_of (drop 1 (behind Line bs))
+longer : (b : ℕ) (bs : List ℕ) → onto_first b (lines_of bs) ≡ (b ∷ before_first is_line_end bs) ∷ lines_of (after_first is_line_end bs)
 unfolding lines_of
 longer b [] = refl
 longer b (c ∷ cs) =
     ⊎_elim
-    (λ (end : is_line_end c ≡ true). let off : belongs Line c ≡ false = simp end in rw (front_off, behind_off) (simp end))
-    (λ (more : is_line_end c ≡ false).
-    let on : belongs Line c ≡ true = simp more in
-    rw (front_on, behind_on) (simp more (ap (onto b) (longer c cs))))
+    (λ (end : is_line_end c ≡ true). simp end)
+    (λ (more : is_line_end c ≡ false). rw (before_on is_line_end c cs more, after_on is_line_end c cs more) (simp more (ap (onto_first b) (longer c cs))))
     (cases_Bool (is_line_end c))
 
 pub no_line : (text : List ℕ) → length text ≡ 0 → lines_of text ≡ []
@@ -25,13 +22,13 @@ no_line [] none = refl
 no_line (b ∷ bs) none = absurd (omega arith)
 
 -- a text that is not empty has a line, and the lines behind it
-pub one_line : (text : List ℕ) → 0 < length text → lines_of text ≡ front Line text ∷ lines_of (drop 1 (behind Line text))
+pub one_line : (text : List ℕ) → 0 < length text → lines_of text ≡ before_first is_line_end text ∷ lines_of (after_first is_line_end text)
 unfolding lines_of
 one_line [] some = absurd (omega arith)
 one_line (b ∷ bs) some =
     ⊎_elim
-    (λ (end : is_line_end b ≡ true). let off : belongs Line b ≡ false = simp end in rw (front_off, behind_off) (simp end))
-    (λ (more : is_line_end b ≡ false). let on : belongs Line b ≡ true = simp more in rw (front_on, behind_on) (simp more (longer b bs)))
+    (λ (end : is_line_end b ≡ true). simp end)
+    (λ (more : is_line_end b ≡ false). rw (before_on is_line_end b bs more, after_on is_line_end b bs more) (simp more (longer b bs)))
     (cases_Bool (is_line_end b))
 
 -- a line and its end in front of more text

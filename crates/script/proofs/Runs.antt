@@ -1,16 +1,38 @@
--- The longest front of a run, byte by byte.
-use Rattle.std.proofs.Common.{◌≡◌, ℕ, true, false, List, [], ◌∷◌, one-add}
-use Rattle.script.specs.Cutting.{belongs, front, behind}
-use Rattle.script.specs.declared.cutting.Run.{Run}
+-- What stands before the first byte that passes a test, what begins there, and what stands behind it.
+use Rattle.std.proofs.Common.{◌≡◌, ℕ, Bool, true, false, not, List, [], ◌∷◌, length, take, one-add, add-one, ◌∙◌, arith, ap}
+use Rattle.std.proofs.lemmas.Bool.Decides.{nat_tests}
+use Rattle.std.proofs.lemmas.List.{take_all}
+use Rattle.std.proofs.lemmas.List.Elements.{All-get_or}
+use Rattle.std.proofs.lemmas.List.Sums.{position_or_len_is, prefix_len-le-length}
+use Rattle.std.specs.List.{All, position, position_or_len, before_first, after_first}
+use Rattle.std.specs.Option.{unwrap_or}
+use Rattle.script.specs.Cutting.{from_first}
 
-pub front_on : (run : Run) (b : ℕ) (bs : List ℕ) → belongs run b ≡ true → front run (b ∷ bs) ≡ b ∷ front run bs
-front_on run b bs on = simp (on, one-add)
+module _ (test : ℕ → Bool) (b : ℕ) (bs : List ℕ) where
+  pub before_on : test b ≡ false → before_first test (b ∷ bs) ≡ b ∷ before_first test bs
+  before_on on = simp (on, one-add)
 
-pub front_off : (run : Run) (b : ℕ) (bs : List ℕ) → belongs run b ≡ false → front run (b ∷ bs) ≡ []
-front_off run b bs off = simp off
+  pub before_off : test b ≡ true → before_first test (b ∷ bs) ≡ []
+  before_off off = simp off
 
-pub behind_on : (run : Run) (b : ℕ) (bs : List ℕ) → belongs run b ≡ true → behind run (b ∷ bs) ≡ behind run bs
-behind_on run b bs on = simp (on, one-add)
+  pub after_on : test b ≡ false → after_first test (b ∷ bs) ≡ after_first test bs
+  after_on on = simp (on, one-add, add-one, add-one)
 
-pub behind_off : (run : Run) (b : ℕ) (bs : List ℕ) → belongs run b ≡ false → behind run (b ∷ bs) ≡ b ∷ bs
-behind_off run b bs off = simp off
+  pub after_off : test b ≡ true → after_first test (b ∷ bs) ≡ bs
+  after_off off = simp off
+
+  pub from_on : test b ≡ false → from_first test (b ∷ bs) ≡ from_first test bs
+  from_on on = simp (on, one-add)
+
+  pub from_off : test b ≡ true → from_first test (b ∷ bs) ≡ b ∷ bs
+  from_off off = simp off
+
+-- `unwrap_or` at what `position` gives
+pub position_or : (test : ℕ → Bool) (bs : List ℕ) → unwrap_or (position test bs) (length bs) ≡ position_or_len test bs
+position_or test bs = let within = prefix_len-le-length (λ b. not (test b)) bs in grind (arith, nat_tests)
+
+-- where no byte passes, all stand before
+pub before_all : (test : ℕ → Bool) (bs : List ℕ) → All (λ b. test b ≡ false) bs → before_first test bs ≡ bs
+before_all test bs none =
+    let len = position_or_len_is test bs (length bs) 0 (omega arith) (λ k inside. All-get_or (λ b. test b ≡ false) bs k 0 inside none) (λ inside. absurd (omega arith)) in
+    ap (λ n. take n bs) len ∙ take_all (length bs) bs (omega arith)

@@ -1,12 +1,13 @@
 -- How a text is cut into lines, and a line into words.
-use Rattle.std.specs.Prelude.{◌≡◌, ℕ, ◌<◌, Bool, true, false, cond, not, ◌&&◌, ◌||◌, List, [], ◌∷◌, ◌++◌, length, take, drop, Some, None, Option, ◌==◌}
-use Rattle.std.specs.List.{flat_map, prefix_len, AllByRecursion}
-use Rattle.script.specs.declared.cutting.Run.{Run}
-use Rattle.script.specs.declared.cutting.Run.TheVariants.{Line, Blanks, Word}
+use Rattle.std.specs.Prelude.{◌≡◌, ℕ, ◌<◌, Bool, true, false, if◌then◌else◌, not, ◌||◌, List, [], ◌∷◌, ◌++◌, length, drop, Some, None, Option, ◌==◌}
+use Rattle.std.specs.List.{flat_map, position_or_len, before_first, after_first, onto_first, slice_split, join_with_byte, AllByRecursion}
 
 -- space, tab, carriage return, vertical tab, form feed
 abbrev pub is_blank : ℕ → Bool
 is_blank b = b == 32 || (b == 9 || (b == 13 || (b == 11 || b == 12)))
+
+abbrev pub not_blank : ℕ → Bool
+not_blank b = not (is_blank b)
 
 -- a comment's beginning
 abbrev pub is_hash : ℕ → Bool
@@ -15,32 +16,26 @@ is_hash b = b == 35
 abbrev pub is_line_end : ℕ → Bool
 is_line_end b = b == 10
 
--- a run goes on over a byte: a line up to its end, blanks, a word up to a blank or a comment
-abbrev pub belongs : Run → ℕ → Bool
-belongs Line b = not (is_line_end b)
-belongs Blanks b = is_blank b
-belongs Word b = not (is_blank b) && not (is_hash b)
+-- a word ends before a blank or a comment
+abbrev pub ends_word : ℕ → Bool
+ends_word b = is_blank b || is_hash b
 
--- the longest front whose bytes belong to a run, and what follows it
-abbrev pub front : Run → List ℕ → List ℕ
-front run bs = take (prefix_len (belongs run) bs) bs
+-- the answers of a closure are those of a test
+abbrev pub Computes : (ℕ → Bool → Type 0) → (ℕ → Bool) → Type 0
+Computes post test = (b : ℕ) (answer : Bool) → post b answer → answer ≡ test b
 
-abbrev pub behind : Run → List ℕ → List ℕ
-behind run bs = drop (prefix_len (belongs run) bs) bs
+-- what is left from the first byte on at which a test passes
+abbrev pub from_first : (ℕ → Bool) → List ℕ → List ℕ
+from_first test bs = drop (position_or_len test bs) bs
 
 -- the first line, and what follows its end
 abbrev pub first_line : List ℕ → Option (List ℕ × List ℕ)
-first_line text = cond (length text == 0) None (Some (front Line text, drop 1 (behind Line text)))
-
--- one byte more in front of the first piece
-abbrev pub onto : ℕ → List (List ℕ) → List (List ℕ)
-onto b [] = (b ∷ []) ∷ []
-onto b (piece ∷ pieces) = (b ∷ piece) ∷ pieces
+first_line text = if length text == 0 then None else Some (before_first is_line_end text, after_first is_line_end text)
 
 -- all lines of a text: each line end closes one, and what is left behind the last is a line too
 unfoldable pub lines_of : List ℕ → List (List ℕ)
 lines_of [] = []
-lines_of (b ∷ bs) = cond (is_line_end b) ([] ∷ lines_of bs) (onto b (lines_of bs))
+lines_of (b ∷ bs) = if is_line_end b then [] ∷ lines_of bs else onto_first b (lines_of bs)
 
 -- a first line and the lines behind it
 abbrev pub lines_by : Option (List ℕ × List ℕ) → List (List ℕ)
@@ -57,20 +52,10 @@ LinesCutBack = (lines : List (List ℕ)) → AllByRecursion (λ line. AllByRecur
 
 -- behind the blanks, the first word and what follows it
 abbrev pub word_then : List ℕ → Option (List ℕ × List ℕ)
-word_then rest = cond (length (front Word rest) == 0) None (Some (front Word rest, behind Word rest))
+word_then rest = if length (before_first ends_word rest) == 0 then None else Some (before_first ends_word rest, from_first ends_word rest)
 
 abbrev pub first_word : List ℕ → Option (List ℕ × List ℕ)
-first_word line = word_then (behind Blanks line)
-
--- a line without its comment
-abbrev pub uncommented : List ℕ → List ℕ
-uncommented [] = []
-uncommented (b ∷ bs) = cond (is_hash b) [] (b ∷ uncommented bs)
-
--- a line cut at every blank: one piece more than there are blanks, the empty ones among them
-abbrev pub pieces : List ℕ → List (List ℕ)
-pieces [] = [] ∷ []
-pieces (b ∷ bs) = cond (is_blank b) ([] ∷ pieces bs) (onto b (pieces bs))
+first_word line = word_then (from_first not_blank line)
 
 -- the pieces that are not empty
 abbrev pub full : List (List ℕ) → List (List ℕ)
@@ -78,28 +63,19 @@ full [] = []
 full ([] ∷ ps) = full ps
 full ((b ∷ bs) ∷ ps) = (b ∷ bs) ∷ full ps
 
--- all words of a line
+-- all words of a line: the line without its comment, cut at every blank, without the empty pieces
 unfoldable pub words_of : List ℕ → List (List ℕ)
-words_of line = full (pieces (uncommented line))
+words_of line = full (slice_split is_blank (before_first is_hash line))
 
 -- a first word and the words behind it
 abbrev pub words_by : Option (List ℕ × List ℕ) → List (List ℕ)
 words_by None = []
 words_by (Some p) = p.0 ∷ words_of p.1
 
--- words with one blank between them
-abbrev pub behind_blank : ℕ → List (List ℕ) → List ℕ
-behind_blank blank [] = []
-behind_blank blank (w ∷ ws) = blank ∷ (w ++ behind_blank blank ws)
-
-abbrev pub spaced : ℕ → List (List ℕ) → List ℕ
-spaced blank [] = []
-spaced blank (w ∷ ws) = w ++ behind_blank blank ws
-
 -- a word has a byte, and neither a blank nor a comment's beginning
 abbrev pub IsWord : List ℕ → Type 0
-IsWord w = (0 < length w) × AllByRecursion (λ b. belongs Word b ≡ true) w
+IsWord w = (0 < length w) × AllByRecursion (λ b. ends_word b ≡ false) w
 
 -- words with one blank between them are cut back into themselves
 abbrev pub WordsCutBack : Type 0
-WordsCutBack = (blank : ℕ) (ws : List (List ℕ)) → is_blank blank ≡ true → AllByRecursion IsWord ws → words_of (spaced blank ws) ≡ ws
+WordsCutBack = (blank : ℕ) (ws : List (List ℕ)) → is_blank blank ≡ true → AllByRecursion IsWord ws → words_of (join_with_byte blank ws) ≡ ws

@@ -1,8 +1,8 @@
 -- What the words of an entry line say.
 use Rattle.std.specs.Prelude.{◌≡◌, ℕ, ◌<◌, cond, List, [], ◌∷◌, map, Some, None, Ok, Err, decimal, Option, Result}
-use Rattle.std.specs.List.{AllByRecursion}
+use Rattle.std.specs.List.{AllByRecursion, join_with_byte}
 use Rattle.terms.specs.declared.requests.Request.{Request}
-use Rattle.script.specs.Cutting.{words_of, spaced}
+use Rattle.script.specs.Cutting.{words_of}
 use Rattle.script.specs.Faults.{fault_at, and_then, with_number, with_end}
 use Rattle.script.specs.Keywords.{spelling, spelt}
 use Rattle.script.specs.Numerals.{number_bound}
@@ -38,7 +38,7 @@ numbers_of (Apply request) = request.client ∷ request.sequence ∷ request.cod
 
 -- an entry as it is written: its name and its numbers in decimal, with one space between them
 abbrev pub written : Entry → List ℕ
-written entry = spaced 32 (spelling (name_of entry) ∷ map decimal (numbers_of entry))
+written entry = join_with_byte 32 (spelling (name_of entry) ∷ map decimal (numbers_of entry))
 
 -- an entry that is written reads as itself
 abbrev pub EntriesReadBack : Type 0

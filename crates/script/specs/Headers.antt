@@ -1,6 +1,7 @@
 -- What the words of a header line say.
 use Rattle.std.specs.Prelude.{◌≡◌, ℕ, cond, List, [], ◌∷◌, Some, None, Ok, Err, Option, Result}
-use Rattle.script.specs.Cutting.{words_of, spaced}
+use Rattle.std.specs.List.{join_with_byte}
+use Rattle.script.specs.Cutting.{words_of}
 use Rattle.script.specs.Faults.{fault_at, place_after, and_then, with_end}
 use Rattle.script.specs.Keywords.{spelling, spelt}
 use Rattle.script.specs.declared.faults.Expected.TheVariants.{Header as NoHeader, Service as NoService, PlainService}
@@ -40,7 +41,7 @@ service_words SessionsGlyphs = spelling keyword.Sessions ∷ spelling keyword.Gl
 service_words SessionsRelease = spelling keyword.Sessions ∷ spelling keyword.Release ∷ []
 
 abbrev pub written : Header → List ℕ
-written (Register service) = spaced 32 (spelling keyword.Register ∷ service_words service)
+written (Register service) = join_with_byte 32 (spelling keyword.Register ∷ service_words service)
 
 -- a header that is written reads as itself
 abbrev pub HeadersReadBack : Type 0

@@ -1,49 +1,8 @@
 // A text is cut into lines, and a line into words.
-ghost use Rattle.std.specs.Prelude.{◌≡◌, ◌<◌, ◌≤◌, length, IfSome};
+ghost use Rattle.std.specs.Prelude.{◌≡◌, ◌<◌, ◌+◌, ℕ, Bool, length, IfSome};
+ghost use Rattle.std.specs.List.{before_first};
 ghost use Rattle.std.specs.Option.{option_map};
-ghost use Rattle.std.specs.List.{prefix_len};
-ghost use Rattle.script.specs.Cutting.{is_blank, belongs, first_line, first_word, lines_of, lines_by, words_of, words_by, LinesCutBack, WordsCutBack};
-
-// What a run of bytes is of.
-#[derive(Clone, Copy)]
-enum Run {
-    Line,
-    Blanks,
-    Word,
-}
-
-impl Run {
-    // Whether the run goes on over this byte.
-    fn has(self, byte: u8) -> bool
-        ensures { result ≡ belongs self byte }
-    {
-        match self {
-            Run::Line => byte != b'\n',
-            Run::Blanks => is_blank(byte),
-            Run::Word => !is_blank(byte) && byte != b'#',
-        }
-    }
-
-    // How many of the first bytes belong to the run.
-    fn length(self, bytes: &[u8]) -> usize
-        ensures value { result ≡ prefix_len (belongs self) bytes.now }
-        ensures bound { result ≤ length bytes.now }
-    {
-        for (i, byte) in bytes.iter().enumerate() {
-            if !self.has(*byte) {
-                return i;
-            }
-        }
-        bytes.len()
-    }
-}
-
-// Space, tab, carriage return, vertical tab and form feed.
-fn is_blank(byte: u8) -> bool
-    ensures { result ≡ is_blank byte }
-{
-    matches!(byte, b' ' | b'\t' | b'\r' | 11 | 12)
-}
+ghost use Rattle.script.specs.Cutting.{Computes, is_blank, from_first, first_line, first_word, lines_of, lines_by, words_of, words_by, LinesCutBack, WordsCutBack};
 
 /// The first line of a text without its end, and what follows it. Call by call it gives all lines of the text, and
 /// lines that are written with their ends come back as they were.
@@ -56,9 +15,9 @@ pub fn next_line(text: &[u8]) -> Option<(&[u8], &[u8])>
     if text.is_empty() {
         return None;
     }
-    let (line, rest) = text.split_at(Run::Line.length(text));
+    let (line, rest) = split_at_first(text, |byte| byte == b'\n');
     match rest {
-        [_, rest @ ..] => Some((line, rest)),
+        [_, behind @ ..] => Some((line, behind)),
         [] => Some((line, rest)),
     }
 }
@@ -71,10 +30,30 @@ pub fn next_word(line: &[u8]) -> Option<(&[u8], &[u8])>
     ensures back { WordsCutBack }
     ensures shorter { IfSome result (λ p. length p.1.now < length line.now) }
 {
-    let (_, rest) = line.split_at(Run::Blanks.length(line));
-    let end = Run::Word.length(rest);
-    if end == 0 {
+    let (_, rest) = split_at_first(line, |byte| !is_blank(byte));
+    let (word, rest) = split_at_first(rest, |byte| is_blank(byte) || byte == b'#');
+    if word.is_empty() {
         return None;
     }
-    Some(rest.split_at(end))
+    Some((word, rest))
+}
+
+// The bytes before the first that passes a test, and those from it on.
+fn split_at_first<F: Fn(u8) -> bool>(bytes: &[u8], test: F) -> (&[u8], &[u8])
+    requires { F.IsAlwaysCallable test }
+    ensures parts { (p : ℕ → Bool) → Computes (F.post test) p → (result.0.now ≡ before_first p bytes.now) × (result.1.now ≡ from_first p bytes.now) }
+    ensures lengths { length result.0.now + length result.1.now ≡ length bytes.now }
+{
+    let end = bytes
+        .iter()
+        .position(|byte| test(*byte))
+        .unwrap_or(bytes.len());
+    bytes.split_at(end)
+}
+
+// Space, tab, carriage return, vertical tab and form feed.
+fn is_blank(byte: u8) -> bool
+    ensures { result ≡ is_blank byte }
+{
+    matches!(byte, b' ' | b'\t' | b'\r' | 11 | 12)
 }

@@ -1,45 +1,29 @@
 // What was expected where a line cannot be read.
-use std::fmt;
+use thiserror::Error;
 
-/// What a word should be.
-#[derive(Clone, Copy, Debug)]
+/// What a word should be. It is shown as the end of a sentence about the word.
+#[derive(Clone, Copy, PartialEq, Eq, Debug, Error)]
 pub enum Expected {
+    #[error("should be \"register SERVICE\"")]
     Header,
+    #[error("should be a service: glyphs, release, sessions glyphs or sessions release")]
     Service,
     /// A service that can stand below sessions.
+    #[error("should be a service below sessions: glyphs or release")]
     PlainService,
+    #[error("should be \"apply CLIENT SEQUENCE CODE KEY VALUE\"")]
     Entry,
+    #[error("should be a number from 0 to 4294967295")]
     Number,
+    #[error("should not be there: the line ends before it")]
     EndOfLine,
 }
 
 /// Why a line cannot be read: the place of a word, from 1, and what should stand there. The place behind the last word
 /// is meant where the line ends too early.
-#[derive(Clone, Copy, Debug)]
+#[derive(Clone, Copy, PartialEq, Eq, Debug, Error)]
+#[error("word {word} {expected}")]
 pub struct Fault {
     pub word: u32,
     pub expected: Expected,
-}
-
-impl Expected {
-    // How a sentence about the word goes on.
-    fn sentence(self) -> &'static str {
-        match self {
-            Expected::Header => "should be \"register SERVICE\"",
-            Expected::Service =>
-                "should be a service: glyphs, release, sessions glyphs or sessions release",
-            Expected::PlainService => "should be a service below sessions: glyphs or release",
-            Expected::Entry => "should be \"apply CLIENT SEQUENCE CODE KEY VALUE\"",
-            Expected::Number => "should be a number from 0 to 4294967295",
-            Expected::EndOfLine => "should not be there: the line ends before it",
-        }
-    }
-}
-
-impl fmt::Display for Fault {
-    fn fmt<W: fmt::Write>(&self, f: &mut fmt::Formatter<W>) -> fmt::Result {
-        let word = self.word;
-        let sentence = self.expected.sentence();
-        write!(f, "word {word} {sentence}")
-    }
 }

@@ -6,11 +6,10 @@ ghost use Rattle.script.specs.Tallies.{row_of, one_more};
 const COUNTED: u32 = 5;
 
 /// How many requests were applied, and how many of them with each status.
-#[derive(Clone, Copy, Debug)]
+#[derive(Clone, Copy, PartialEq, Eq, Debug)]
 pub struct Tally {
     applied: u64,
     rows: [u64; 6],
-    ghost six: { length rows ≡ 6 },
 }
 
 impl Tally {
