@@ -5,3 +5,4 @@ pub mod Pairs
 pub mod Pieces
 pub mod Rows
 pub mod Runs
+pub mod Spelling

@@ -5,7 +5,6 @@ ghost use Rattle.script.specs.Entries.{entry_of, request_of, EntriesReadBack};
 
 use super::cursors::Words;
 use super::faults::{Expected, Fault};
-use super::keywords::Keyword;
 use terms::Request;
 
 /// One step of a run.
@@ -16,25 +15,23 @@ pub enum Entry {
 
 /// The entry that a line is, nothing for a line without words, or the first fault from the left.
 /// Every entry that is written in decimal with single spaces reads as itself.
+#[tactic(auto, using(crate::proofs::Spelling::spelling, crate::proofs::Backs::entries_read_back))]
 pub fn read_entry(line: &[u8]) -> Result<Option<Entry>, Fault>
     ensures value { result ≡ entry_of (words_of line.now) }
     ensures back { EntriesReadBack }
 {
     let mut words = Words::of(line);
     let fault = words.fault(Expected::Entry);
-    let Some(word) = words.next() else {
-        return Ok(None);
-    };
-    if Keyword::Apply.is(word) {
-        Ok(Some(Entry::Apply(read_request(&mut words)?)))
-    } else {
-        Err(fault)
+    match words.next() {
+        None => Ok(None),
+        Some(b"apply") => Ok(Some(Entry::Apply(read_request(&mut words)?))),
+        Some(_) => Err(fault),
     }
 }
 
 // The five numbers of a request, and nothing behind them.
 fn read_request(words: &mut Words) -> Result<Request, Fault>
-    ensures { result ≡ request_of words.old.place (words_of words.old.rest.now) }
+    ensures { result ≡ request_of words.old }
 {
     let client = words.number()?;
     let sequence = words.number()?;

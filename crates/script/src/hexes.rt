@@ -22,16 +22,17 @@ impl fmt::Display for Hex<'_> {
 
 /// The bytes that a word writes in hexadecimal: two digits to a byte, in either case, and nothing else.
 /// Bytes written in hexadecimal read as themselves.
+#[tactic(auto, using(crate::proofs::Pairs::hexes_read, crate::proofs::Pairs::odd_digits_write_nothing, crate::proofs::Pairs::pairs_write, crate::proofs::Pairs::pairs_go_on))]
 pub fn read_hex(heap: Global, word: &[u8]) -> Result<Option<Vec<u8>>, AllocError>
     ensures value { IfOk result (λ bytes. option_map vec_items bytes ≡ bytes_of word.now) }
     ensures written { HexesRead }
 {
-    if word.len() % 2 == 1 {
+    let (pairs, []) = word.as_chunks::<2>() else {
         return Ok(None);
-    }
-    let mut bytes = Vec::with_capacity(heap, word.len() / 2)?;
-    for i in 0..word.len() / 2 {
-        let Some(byte) = hex_byte(word[2 * i], word[2 * i + 1]) else {
+    };
+    let mut bytes = Vec::with_capacity(heap, pairs.len())?;
+    for [high, low] in pairs {
+        let Some(byte) = hex_byte(*high, *low) else {
             return Ok(None);
         };
         bytes.push_reserved(byte);

@@ -7,7 +7,6 @@ mod entries;
 mod faults;
 mod headers;
 mod hexes;
-mod keywords;
 mod numerals;
 mod tallies;
 
@@ -15,7 +14,7 @@ pub use cursors::Lines;
 pub use cutting::{next_line, next_word};
 pub use entries::{Entry, read_entry};
 pub use faults::{Expected, Fault};
-pub use headers::{Header, ServiceKind, read_header};
+pub use headers::{Header, RegisterKind, ServiceKind, read_header};
 pub use hexes::{Hex, read_hex};
 pub use numerals::read_number;
 pub use tallies::Tally;

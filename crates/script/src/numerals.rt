@@ -22,8 +22,6 @@ pub fn read_number(word: &[u8]) -> Option<u32>
 fn with_digit(number: u32, byte: u8) -> Option<u32>
     ensures { result ≡ with_digit number byte }
 {
-    if !byte.is_ascii_digit() {
-        return None;
-    }
-    number.checked_mul(10)?.checked_add(u32::from(byte - b'0'))
+    let digit = char::from(byte).to_digit(10)?;
+    number.checked_mul(10)?.checked_add(digit)
 }

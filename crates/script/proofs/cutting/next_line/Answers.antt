@@ -1,5 +1,5 @@
 -- The first line and the lines behind it, with and without a line end.
-use Rattle.std.proofs.Common.{rules, ◌≡◌, ap, ◌∙◌, sym, length, take, drop, [], ◌-◌, arith}
+use Rattle.std.proofs.Common.{rules, ◌≡◌, ap, ◌∙◌, sym, length, take, drop, ◌-◌, arith}
 use Rattle.std.proofs.lemmas.List.{take_rest, drop-drop, length-drop, nil_from_length}
 use Rattle.std.specs.List.{after_first, position_or_len}
 use Rattle.script.specs.Cutting.{is_line_end}

@@ -1,5 +1,5 @@
 -- The first word and the words behind it.
-use Rattle.std.proofs.Common.{rules, ◌≡◌}
+use Rattle.std.proofs.Common.{rules}
 use Rattle.script.specs.Cutting.{not_blank, ends_word}
 use Rattle.script.proofs.Pieces.{no_word, one_word, words_cut_back}
 use Rattle.script.proofs.cutting.next_word.Goals as goal

@@ -1,0 +1,18 @@
+-- What is left of a text's lines, and of a line's words.
+use Rattle.std.specs.Prelude.{◌≡◌, ℕ, ◌+◌, ◌<◌, min, true, List, [], ◌∷◌, length, Option, is_some}
+use Rattle.std.specs.Iterator.{YieldsFirstBy}
+use Rattle.std.specs.Borrow.{Bor}
+use Rattle.script.specs.Cutting.{lines_of}
+use Rattle.script.specs.declared.cursors.Lines.{Lines}
+
+-- lines behind that of a number, each with its own; at the largest number they stay
+abbrev pub numbered : ℕ → List (List ℕ) → List (ℕ × List ℕ)
+numbered n [] = []
+numbered n (line ∷ lines) = (min (n + 1) 18446744073709551615, line) ∷ numbered (min (n + 1) 18446744073709551615) lines
+
+abbrev pub lines_left : Lines → List (ℕ × List ℕ)
+lines_left lines = numbered lines.number (lines_of lines.rest.now)
+
+-- a call of `next` gives the first line that is left, with its number, and leaves the others, in fewer bytes
+abbrev pub NextLine : Lines → Option (ℕ × Bor (List ℕ)) → Lines → Type 0
+NextLine s r t = YieldsFirstBy (λ p. (p.0, p.1.now)) lines_left s r t × (is_some r ≡ true → length t.rest.now < length s.rest.now)
