@@ -2,7 +2,7 @@
 ghost use Rattle.std.specs.Prelude.{◌≡◌, ◌<◌, ◌+◌, ℕ, Bool, length, IfSome};
 ghost use Rattle.std.specs.List.{before_first};
 ghost use Rattle.std.specs.Option.{option_map};
-ghost use Rattle.script.specs.Cutting.{Computes, is_blank, from_first, first_line, first_word, lines_of, lines_by, words_of, words_by, LinesCutBack, WordsCutBack};
+ghost use Rattle.script.specs.Cutting.{Computes, is_blank, ends_word, from_first, first_line, first_word, lines_of, lines_by, words_of, words_by, LinesCutBack, WordsCutBack};
 
 /// The first line of a text without its end, and what follows it. Call by call it gives all lines of the text, and
 /// lines that are written with their ends come back as they were.
@@ -31,7 +31,7 @@ pub fn next_word(line: &[u8]) -> Option<(&[u8], &[u8])>
     ensures shorter { IfSome result (λ p. length p.1.now < length line.now) }
 {
     let (_, rest) = split_at_first(line, |byte| !is_blank(byte));
-    let (word, rest) = split_at_first(rest, |byte| is_blank(byte) || byte == b'#');
+    let (word, rest) = split_at_first(rest, ends_word);
     if word.is_empty() {
         return None;
     }
@@ -56,4 +56,11 @@ fn is_blank(byte: u8) -> bool
     ensures { result ≡ is_blank byte }
 {
     matches!(byte, b' ' | b'\t' | b'\r' | 11 | 12)
+}
+
+// A blank, or a comment's beginning.
+fn ends_word(byte: u8) -> bool
+    ensures { result ≡ ends_word byte }
+{
+    is_blank(byte) || byte == b'#'
 }
