@@ -1,6 +1,7 @@
 -- A line's words read from the left: each at its place, up to the first fault.
-use Rattle.std.specs.Prelude.{ℕ, ◌+◌, min, Bool, List, [], ◌∷◌, drop, Some, None, Ok, Err, Option, Result}
-use Rattle.std.specs.Option.{ok_or}
+use Rattle.std.specs.Prelude.{◌≡◌, ℕ, ◌+◌, min, Bool, List, [], ◌∷◌, drop, Some, None, Ok, Err, Option, Result}
+use Rattle.std.specs.Option.{ok_or, option_map}
+use Rattle.std.specs.Borrow.{Bor}
 use Rattle.std.specs.Str.{bytes_eq}
 use Rattle.script.specs.Numerals.{number_of}
 use Rattle.script.specs.declared.faults.Expected.{Expected}
@@ -27,6 +28,10 @@ first_of (w ∷ ws) = Some w
 -- what is left behind the first word
 abbrev pub behind_first : Left → Left
 behind_first left = record { place = place_after left.place; words = drop 1 left.words }
+
+-- a call of `next` gives the first word, if there is one, and goes on behind it
+abbrev pub NextWord : Left → Option (Bor (List ℕ)) → Left → Type 0
+NextWord s r t = (option_map (λ word. word.now) r ≡ first_of s.words) × (t ≡ behind_first s)
 
 -- the word is this one
 unfoldable pub spelt : List ℕ → List ℕ → Bool

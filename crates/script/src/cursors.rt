@@ -1,10 +1,9 @@
 // A text read line by line, and a line word by word, each with the place where the reading stands.
 ghost use Rattle.std.specs.Prelude.{◌≡◌};
 ghost use Rattle.std.specs.Iterator.{item_count};
-ghost use Rattle.std.specs.Option.{option_map};
 ghost use Rattle.script.specs.Cursors.{lines_left, NextLine};
 ghost use Rattle.script.specs.Cutting.{words_of};
-ghost use Rattle.script.specs.Words.{Left, fault_at, behind_first, first_of, number_at, with_end};
+ghost use Rattle.script.specs.Words.{NextWord, fault_at, behind_first, number_at, with_end};
 
 use super::cutting::{next_line, next_word};
 use super::faults::{Expected, Fault};
@@ -62,6 +61,21 @@ impl<'a> Model for Words<'a> {
     ghost view = { λ w. record { place = w.place; words = words_of w.rest.now } };
 }
 
+impl<'a> Iterator for Words<'a> {
+    type Item = &'a [u8];
+
+    ghost next_gives = { NextWord };
+
+    ghost remaining = { item_count (λ w. w.words) };
+
+    fn next(&mut self) -> Option<&'a [u8]> {
+        self.place = self.place.saturating_add(1);
+        let (word, rest) = next_word(self.rest)?;
+        self.rest = rest;
+        Some(word)
+    }
+}
+
 impl<'a> Words<'a> {
     // All words of a line.
     pub(crate) fn of(line: &'a [u8]) -> Words<'a>
@@ -71,17 +85,6 @@ impl<'a> Words<'a> {
             rest: line,
             place: 1,
         }
-    }
-
-    // The next word, if there is one.
-    pub(crate) fn next(&mut self) -> Option<&'a [u8]>
-        ensures value { option_map (λ x. x.now) result ≡ first_of self.old.words }
-        ensures rest { self.new ≡ behind_first self.old }
-    {
-        self.place = self.place.saturating_add(1);
-        let (word, rest) = next_word(self.rest)?;
-        self.rest = rest;
-        Some(word)
     }
 
     // The fault that the next word is not what was expected.
