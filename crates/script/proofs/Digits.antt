@@ -1,32 +1,34 @@
 -- What digits write, one digit after the other, and the way back from a number in decimal.
-use Rattle.std.proofs.Common.{◌≡◌, ℕ, ◌+◌, ◌-◌, ◌*◌, ◌^◌, ◌<◌, ◌≤◌, true, List, [], ◌∷◌, length, Some, None, decimal, arith, rules}
+use Rattle.std.proofs.Common.{◌≡◌, ℕ, ◌+◌, ◌*◌, ◌^◌, ◌<◌, ◌≤◌, true, List, [], ◌∷◌, length, Some, None, decimal, arith}
 use Rattle.std.proofs.lemmas.Bool.Decides.{nat_tests}
-use Rattle.std.proofs.lemmas.Str.Parse.{IsNumeralModel, numerals_by_fold}
+use Rattle.std.proofs.lemmas.Str.Parse.{IsNumeralModel, numerals_by_value, tells_all_ascii_digits}
 use Rattle.std.proofs.lemmas.Fmt.{digits_decimal, digits_value-decimal, decimal_nonempty}
+use Rattle.std.specs.Char.{digit_value}
 use Rattle.std.specs.Str.{all_ascii_digits}
-use Rattle.script.specs.Numerals.{number_bound, value_after, number_after, with_digit, number_of, DecimalsRead}
+use Rattle.std.specs.Str.Parse.{digits_value, digits_value_after}
+use Rattle.script.specs.Numerals.{number_bound, number_after, with_digit, number_of, DecimalsRead}
 
-value_grows : (n : ℕ) (ds : List ℕ) → n ≤ value_after n ds
+value_grows : (n : ℕ) (ds : List ℕ) → n ≤ digits_value_after 10 n ds
 value_grows n [] = omega arith
-value_grows n (d ∷ ds) = omega (arith, value_grows (10 * n + (d - 48)) ds)
+value_grows n (d ∷ ds) = omega (arith, value_grows (n * 10 + digit_value d) ds)
 
 pub number_goes_on : (n m d : ℕ) (ds : List ℕ) → Some m ≡ with_digit n d → number_after n (d ∷ ds) ≡ number_after m ds
 number_goes_on n m d ds more = grind (arith, nat_tests)
 
 pub number_stops : (n d : ℕ) (ds : List ℕ) → None ≡ with_digit n d → number_after n (d ∷ ds) ≡ None
-number_stops n d ds stop = let grows = value_grows (10 * n + (d - 48)) ds in grind (arith, nat_tests)
+number_stops n d ds stop = let grows = value_grows (n * 10 + digit_value d) ds in grind (arith, nat_tests)
 
-number_of_digits : (word : List ℕ) (n : ℕ) → all_ascii_digits word ≡ true → value_after 0 word ≡ n → 0 < length word → n < number_bound → number_of word ≡ Some n
-unfolding number_of
-number_of_digits word n digits value some small = grind (arith, nat_tests)
-
-own : IsNumeralModel (λ ds. all_ascii_digits ds ≡ true) (value_after 0)
-own = numerals_by_fold _ (search rules) value_after (search rules)
+own : IsNumeralModel (λ ds. all_ascii_digits ds ≡ true) (digits_value 10)
+own = numerals_by_value _ tells_all_ascii_digits
 
 pub decimals_read : DecimalsRead
+unfolding number_of
 decimals_read n small =
     let fits : n < 2 ^ 64 = omega arith in
-    number_of_digits (decimal n) n (digits_decimal own n fits) (digits_value-decimal own n fits) (decimal_nonempty n fits) small
+    let digits = digits_decimal own n fits in
+    let value = digits_value-decimal own n fits in
+    let some = decimal_nonempty n fits in
+    grind (arith, nat_tests)
 
 pub decimal_digits : (n : ℕ) → n < number_bound → all_ascii_digits (decimal n) ≡ true
 decimal_digits n small = digits_decimal own n (omega arith)

@@ -52,14 +52,6 @@ module _ (pairs : List (List ℕ)) (bytes : List ℕ) (i : ℕ) where
       ∙ ap (λ o. behind bytes (followed o (bytes_of_pairs (drop (i + 1) pairs)))) (sym is)
       ∙ one_more_behind bytes byte (bytes_of_pairs (drop (i + 1) pairs))
 
-  pub pairs_stop : i < length pairs → None ≡ read → left ≡ None
-  pairs_stop inside stop =
-      ap (behind bytes) (at_drop_more bytes_of_pairs pairs i [] inside)
-      ∙ ap (λ o. behind bytes (followed o (bytes_of_pairs (drop (i + 1) pairs)))) (sym stop)
-
-  pub pairs_end : length pairs ≤ i → left ≡ Some bytes
-  pairs_end all = ap (behind bytes) (at_drop_all bytes_of_pairs pairs i all) ∙ ap Some (append-nil bytes)
-
 digit_reads : (d : ℕ) → d < 16 → digit_value (digit_char d) ≡ d
 digit_reads d small = grind (arith, nat_tests)
 

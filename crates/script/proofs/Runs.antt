@@ -8,6 +8,7 @@ use Rattle.std.specs.List.{All, position, position_or_len, before_first, after_f
 use Rattle.std.specs.Option.{unwrap_or}
 use Rattle.script.specs.Cutting.{from_first}
 
+-- by the first byte: it does not pass and the search goes on, or it passes
 module _ (test : ℕ → Bool) (b : ℕ) (bs : List ℕ) where
   pub before_on : test b ≡ false → before_first test (b ∷ bs) ≡ b ∷ before_first test bs
   before_on on = simp (on, one-add)
@@ -16,10 +17,7 @@ module _ (test : ℕ → Bool) (b : ℕ) (bs : List ℕ) where
   before_off off = simp off
 
   pub after_on : test b ≡ false → after_first test (b ∷ bs) ≡ after_first test bs
-  after_on on = simp (on, one-add, add-one, add-one)
-
-  pub after_off : test b ≡ true → after_first test (b ∷ bs) ≡ bs
-  after_off off = simp off
+  after_on on = simp (on, one-add, add-one)
 
   pub from_on : test b ≡ false → from_first test (b ∷ bs) ≡ from_first test bs
   from_on on = simp (on, one-add)

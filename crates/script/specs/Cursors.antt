@@ -3,12 +3,13 @@ use Rattle.std.specs.Prelude.{◌≡◌, ℕ, ◌+◌, ◌<◌, min, true, List,
 use Rattle.std.specs.Iterator.{YieldsFirstBy}
 use Rattle.std.specs.Borrow.{Bor}
 use Rattle.script.specs.Cutting.{lines_of}
+use Rattle.script.specs.Tallies.{one_more}
 use Rattle.script.specs.declared.cursors.Lines.{Lines}
 
 -- lines behind that of a number, each with its own; at the largest number they stay
 abbrev pub numbered : ℕ → List (List ℕ) → List (ℕ × List ℕ)
 numbered n [] = []
-numbered n (line ∷ lines) = (min (n + 1) 18446744073709551615, line) ∷ numbered (min (n + 1) 18446744073709551615) lines
+numbered n (line ∷ lines) = (one_more n, line) ∷ numbered (one_more n) lines
 
 abbrev pub lines_left : Lines → List (ℕ × List ℕ)
 lines_left lines = numbered lines.number (lines_of lines.rest.now)

@@ -1,8 +1,9 @@
 -- What the words of a header line say.
 use Rattle.std.specs.Prelude.{◌≡◌, ℕ, if◌then◌else◌, codes, List, [], ◌∷◌, Some, None, Ok, Err, Option, Result}
 use Rattle.std.specs.List.{join_with_byte}
+use Rattle.std.specs.Option.{ok_or}
 use Rattle.script.specs.Cutting.{words_of}
-use Rattle.script.specs.Words.{Left, fault_at, read_at, behind_first, and_then, with_end, spelt}
+use Rattle.script.specs.Words.{Left, first_of, fault_at, read_at, behind_first, and_then, with_end, spelt}
 use Rattle.script.specs.declared.faults.Expected.TheVariants.{Header as NoHeader, Service as NoService, PlainService}
 use Rattle.script.specs.declared.faults.Fault.{Fault}
 use Rattle.script.specs.declared.headers.Header.{Header}
@@ -27,7 +28,7 @@ alone_of left = and_then (read_at NoService register_of left) (λ register. with
 -- a service, and nothing behind it
 unfoldable pub service_of : Left → Result ServiceKind Fault
 service_of left =
-    and_then (read_at NoService (λ w. Some w) left) (λ w.
+    and_then (ok_or (first_of left.words) (fault_at left.place NoService)) (λ w.
     if spelt (codes "sessions") w then sessions_of (behind_first left) else alone_of left)
 
 -- no words say nothing; `register SERVICE` names a service

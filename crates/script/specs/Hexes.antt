@@ -1,11 +1,11 @@
 -- What a word of hexadecimal digits writes.
-use Rattle.std.specs.Prelude.{◌≡◌, ℕ, ◌+◌, ◌*◌, ◌/◌, ◌%◌, ◌<◌, cond, ◌&&◌, List, [], ◌∷◌, Some, None, Option, nat_lt, slice_index}
+use Rattle.std.specs.Prelude.{◌≡◌, ℕ, ◌+◌, ◌*◌, ◌/◌, ◌%◌, ◌<◌, if◌then◌else◌, ◌&&◌, List, [], ◌∷◌, Some, None, Option, nat_lt, slice_index}
 use Rattle.std.specs.Option.{option_map}
 use Rattle.std.specs.Char.{digit_value, digit_char}
 
 -- the byte that two digits write, if they are digits; letters may be of either case
 abbrev pub hex_byte : ℕ → ℕ → Option ℕ
-hex_byte high low = cond (nat_lt (digit_value high) 16 && nat_lt (digit_value low) 16) (Some (16 * digit_value high + digit_value low)) None
+hex_byte high low = if nat_lt (digit_value high) 16 && nat_lt (digit_value low) 16 then Some (16 * digit_value high + digit_value low) else None
 
 -- a byte and those behind it, if all can be read
 abbrev pub followed : Option ℕ → Option (List ℕ) → Option (List ℕ)

@@ -1,6 +1,6 @@
 -- A line's words read from the left: each at its place, up to the first fault.
 use Rattle.std.specs.Prelude.{◌≡◌, ℕ, ◌+◌, min, Bool, List, [], ◌∷◌, drop, Some, None, Ok, Err, Option, Result}
-use Rattle.std.specs.Option.{ok_or, option_map}
+use Rattle.std.specs.Option.{ok_or, option_map, option_and_then}
 use Rattle.std.specs.Borrow.{Bor}
 use Rattle.std.specs.Str.{bytes_eq}
 use Rattle.script.specs.Numerals.{number_of}
@@ -37,14 +37,9 @@ NextWord s r t = (option_map (λ word. word.now) r ≡ first_of s.words) × (t �
 unfoldable pub spelt : List ℕ → List ℕ → Bool
 spelt text word = bytes_eq word text
 
--- what the first word is read as, if there is one and it can be read
-abbrev pub read_first : {X : Type 0} → (List ℕ → Option X) → List (List ℕ) → Option X
-read_first read [] = None
-read_first read (w ∷ ws) = read w
-
 -- the first word, which must be read as what is expected
 abbrev pub read_at : {X : Type 0} → Expected → (List ℕ → Option X) → Left → Result X Fault
-read_at what read left = ok_or (read_first read left.words) (fault_at left.place what)
+read_at what read left = ok_or (option_and_then read (first_of left.words)) (fault_at left.place what)
 
 abbrev pub number_at : Left → Result ℕ Fault
 number_at = read_at Number number_of

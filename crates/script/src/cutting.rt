@@ -6,6 +6,7 @@ ghost use Rattle.script.specs.Cutting.{Computes, is_blank, ends_word, from_first
 
 /// The first line of a text without its end, and what follows it. Call by call it gives all lines of the text, and
 /// lines that are written with their ends come back as they were.
+#[tactic(auto, using(crate::proofs::Rows::no_line, crate::proofs::Rows::lines_cut_back))]
 pub fn next_line(text: &[u8]) -> Option<(&[u8], &[u8])>
     ensures value { option_map (λ p. (p.0.now, p.1.now)) result ≡ first_line text.now }
     ensures lines { lines_of text.now ≡ lines_by (option_map (λ p. (p.0.now, p.1.now)) result) }

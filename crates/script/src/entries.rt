@@ -8,7 +8,7 @@ use super::faults::{Expected, Fault};
 use terms::Request;
 
 /// One step of a run.
-#[derive(Clone, Copy, Debug)]
+#[derive(Clone, Copy, PartialEq, Eq, Debug)]
 pub enum Entry {
     Apply(Request),
 }

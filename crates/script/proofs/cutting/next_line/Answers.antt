@@ -3,11 +3,8 @@ use Rattle.std.proofs.Common.{rules, ◌≡◌, ap, ◌∙◌, sym, length, take
 use Rattle.std.proofs.lemmas.List.{take_rest, drop-drop, length-drop, nil_from_length}
 use Rattle.std.specs.List.{after_first, position_or_len}
 use Rattle.script.specs.Cutting.{is_line_end}
-use Rattle.script.proofs.Rows.{one_line, no_line, lines_cut_back}
+use Rattle.script.proofs.Rows.{one_line, lines_cut_back}
 use Rattle.script.proofs.cutting.next_line.Goals as goal
-
-pub returns-then-is_empty : goal.returns-then-is_empty
-returns-then-is_empty c = record { value = search rules; lines = search (rules, no_line); back = lines_cut_back; shorter = tt }
 
 pub returns-in-len1-up : goal.returns-in-len1-up
 returns-in-len1-up c =
