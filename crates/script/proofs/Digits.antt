@@ -30,6 +30,9 @@ decimals_read n small =
     let some = decimal_nonempty n fits in
     grind (arith, nat_tests)
 
+-- what the goals of `read_number` want
+pub ruleset digits = (number_goes_on, decimals_read)
+
 pub decimal_digits : (n : ℕ) → n < number_bound → all_ascii_digits (decimal n) ≡ true
 decimal_digits n small = digits_decimal own n (omega arith)
 

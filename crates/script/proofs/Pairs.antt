@@ -1,6 +1,6 @@
 -- Bytes that hexadecimal digits write, two digits at a time.
-use Rattle.std.proofs.Common.{◌≡◌, ℕ, zero, suc, ◌+◌, ◌*◌, ◌/◌, ◌%◌, ◌<◌, ◌≤◌, List, [], ◌∷◌, ◌++◌, length, get_or, drop, Some, None, Option, sym, refl, ap, ◌∙◌, arith, rules}
-use Rattle.std.proofs.lemmas.List.{append_assoc, append-nil, at_drop_more, at_drop_all}
+use Rattle.std.proofs.Common.{◌≡◌, ℕ, zero, suc, ◌+◌, ◌*◌, ◌/◌, ◌%◌, ◌<◌, List, [], ◌∷◌, ◌++◌, length, get_or, drop, Some, None, Option, sym, refl, ap, ◌∙◌, arith, rules}
+use Rattle.std.proofs.lemmas.List.{append_assoc, at_drop_more}
 use Rattle.std.proofs.lemmas.Bool.Decides.{nat_tests}
 use Rattle.std.specs.Option.{option_map}
 use Rattle.std.specs.Char.{digit_value, digit_char}
@@ -67,3 +67,6 @@ hexes_read [] small = refl
 hexes_read (byte ∷ bytes) small =
     ap (λ o. followed o (bytes_of (hex_of bytes))) (byte_reads byte (small 0))
     ∙ ap (followed (Some byte)) (hexes_read bytes (λ k. small (suc k)))
+
+-- what the goals of `read_hex` want
+pub ruleset pairs = (odd_digits_write_nothing, pairs_write, pairs_go_on, hexes_read)

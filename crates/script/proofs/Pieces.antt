@@ -1,11 +1,11 @@
 -- The words of a line, one after the other.
-use Rattle.std.proofs.Common.{◌≡◌, ℕ, ◌<◌, true, false, cond, List, [], ◌∷◌, length, refl, ap, ◌∙◌, ⊎_elim, arith}
+use Rattle.std.proofs.Common.{◌≡◌, ℕ, ◌<◌, true, false, cond, filter, nat_lt, List, [], ◌∷◌, length, refl, ap, ◌∙◌, ⊎_elim, arith}
 use Rattle.std.proofs.lemmas.Bool.{cases_Bool, both_ways}
 use Rattle.std.proofs.lemmas.Bool.Decides.{nat_tests}
 use Rattle.std.proofs.lemmas.List.Elements.{All-from_recursion, All-nil, All-cons, All-append, All-weaker}
 use Rattle.std.proofs.lemmas.List.Splits.{slice_split_none, slice_split_at}
 use Rattle.std.specs.List.{All, AllByRecursion, before_first, slice_split, join_with_byte}
-use Rattle.script.specs.Cutting.{is_blank, not_blank, is_hash, ends_word, from_first, full, words_of, IsWord, WordsCutBack}
+use Rattle.script.specs.Cutting.{is_blank, not_blank, is_hash, ends_word, from_first, words_of, IsWord, WordsCutBack}
 use Rattle.script.proofs.Runs.{before_on, before_off, from_on, from_off, before_all}
 
 -- what a byte is to a word: a part of it, or the comment or the blank that ends it
@@ -24,6 +24,10 @@ kind b =
     (λ (plain : is_hash b ≡ false). part (simp (solid, plain)) solid plain)
     (cases_Bool (is_hash b)))
     (cases_Bool (is_blank b))
+
+-- the pieces that are not empty
+abbrev full : List (List ℕ) → List (List ℕ)
+full ps = filter (λ piece. nat_lt 0 (length piece)) ps
 
 -- a line without its comment, cut at every blank
 abbrev pieces : List ℕ → List (List ℕ)
@@ -64,8 +68,7 @@ later_words (b ∷ bs) = elim (kind b) [
 
 -- a piece that is not empty is a word
 full_on : (piece : List ℕ) (ps : List (List ℕ)) → 0 < length piece → full (piece ∷ ps) ≡ piece ∷ full ps
-full_on [] ps some = absurd (omega arith)
-full_on (b ∷ bs) ps some = refl
+full_on piece ps some = grind (arith, nat_tests)
 
 -- behind the blanks of a line: no word, or one and the rest of the words
 pub no_word : (line : List ℕ) → length (before_first ends_word (from_first not_blank line)) ≡ 0 → words_of line ≡ []

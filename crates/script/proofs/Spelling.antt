@@ -19,4 +19,5 @@ spelt_by_bytes [] (x ∷ word) = grind (arith, nat_tests)
 spelt_by_bytes (b ∷ text) [] = grind (arith, nat_tests)
 spelt_by_bytes (b ∷ text) (x ∷ word) = let rest = spelt_by_bytes text word in let shift = reads_behind text x word 0 in grind (arith, nat_tests)
 
+-- what the arms of a `match` on a word want
 pub ruleset spelling = (nat_tests, spelt_by_bytes)

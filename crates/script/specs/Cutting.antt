@@ -1,5 +1,5 @@
 -- How a text is cut into lines, and a line into words.
-use Rattle.std.specs.Prelude.{◌≡◌, ℕ, ◌<◌, Bool, true, false, if◌then◌else◌, not, ◌||◌, List, [], ◌∷◌, ◌++◌, length, drop, Some, None, Option, ◌==◌}
+use Rattle.std.specs.Prelude.{◌≡◌, ℕ, ◌<◌, Bool, true, false, if◌then◌else◌, not, ◌||◌, filter, nat_lt, List, [], ◌∷◌, ◌++◌, length, drop, Some, None, Option, ◌==◌}
 use Rattle.std.specs.List.{flat_map, position_or_len, before_first, after_first, onto_first, slice_split, join_with_byte, AllByRecursion}
 
 -- space, tab, carriage return, vertical tab, form feed
@@ -57,15 +57,9 @@ word_then rest = if length (before_first ends_word rest) == 0 then None else Som
 abbrev pub first_word : List ℕ → Option (List ℕ × List ℕ)
 first_word line = word_then (from_first not_blank line)
 
--- the pieces that are not empty
-abbrev pub full : List (List ℕ) → List (List ℕ)
-full [] = []
-full ([] ∷ ps) = full ps
-full ((b ∷ bs) ∷ ps) = (b ∷ bs) ∷ full ps
-
 -- all words of a line: the line without its comment, cut at every blank, without the empty pieces
 unfoldable pub words_of : List ℕ → List (List ℕ)
-words_of line = full (slice_split is_blank (before_first is_hash line))
+words_of line = filter (λ piece. nat_lt 0 (length piece)) (slice_split is_blank (before_first is_hash line))
 
 -- a first word and the words behind it
 abbrev pub words_by : Option (List ℕ × List ℕ) → List (List ℕ)

@@ -1,8 +1,8 @@
 // A text read line by line, and a line word by word, each with the place where the reading stands.
 ghost use Rattle.std.specs.Prelude.{◌≡◌};
 ghost use Rattle.std.specs.Iterator.{item_count};
-ghost use Rattle.script.specs.Cursors.{lines_left, NextLine};
 ghost use Rattle.script.specs.Cutting.{words_of};
+ghost use Rattle.script.specs.Lines.{lines_left, NextLine};
 ghost use Rattle.script.specs.Words.{NextWord, fault_at, behind_first, number_at, with_end};
 
 use super::cutting::{next_line, next_word};

@@ -7,14 +7,14 @@ use super::cursors::Words;
 use super::faults::{Expected, Fault};
 use std::fmt;
 
-/// A service of the register.
+/// A register that can stand alone or below sessions.
 #[derive(Clone, Copy, PartialEq, Eq, Debug)]
 pub enum RegisterKind {
     Glyphs,
     Release,
 }
 
-/// A service of the register, alone or behind sessions.
+/// A service: a register, alone or behind sessions.
 #[derive(Clone, Copy, PartialEq, Eq, Debug)]
 pub enum ServiceKind {
     Alone(RegisterKind),

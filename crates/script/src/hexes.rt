@@ -22,7 +22,7 @@ impl fmt::Display for Hex<'_> {
 
 /// The bytes that a word writes in hexadecimal: two digits to a byte, in either case, and nothing else.
 /// Bytes written in hexadecimal read as themselves.
-#[tactic(auto, using(crate::proofs::Pairs::hexes_read, crate::proofs::Pairs::odd_digits_write_nothing, crate::proofs::Pairs::pairs_write, crate::proofs::Pairs::pairs_go_on))]
+#[tactic(auto, using(crate::proofs::Pairs::pairs))]
 pub fn read_hex(heap: Global, word: &[u8]) -> Result<Option<Vec<u8>>, AllocError>
     ensures value { IfOk result (λ bytes. option_map vec_items bytes ≡ bytes_of word.now) }
     ensures written { HexesRead }

@@ -4,7 +4,7 @@ ghost use Rattle.script.specs.Numerals.{number_of, with_digit, DecimalsRead};
 
 /// The number that a word writes: decimal digits and nothing else, a value below 2^32. Zeros may lead.
 /// Every such number in decimal reads as itself.
-#[tactic(auto, using(crate::proofs::Digits::decimals_read, crate::proofs::Digits::number_goes_on), unfolding(crate::specs::Numerals::number_of))]
+#[tactic(auto, using(crate::proofs::Digits::digits), unfolding(crate::specs::Numerals::number_of))]
 pub fn read_number(word: &[u8]) -> Option<u32>
     ensures value { result ≡ number_of word.now }
     ensures decimals { DecimalsRead }

@@ -1,5 +1,5 @@
--- What is left of a text's lines, and of a line's words.
-use Rattle.std.specs.Prelude.{◌≡◌, ℕ, ◌+◌, ◌<◌, min, true, List, [], ◌∷◌, length, Option, is_some}
+-- What is left of a text, line by line.
+use Rattle.std.specs.Prelude.{◌≡◌, ℕ, ◌<◌, true, List, [], ◌∷◌, length, Option, is_some}
 use Rattle.std.specs.Iterator.{YieldsFirstBy}
 use Rattle.std.specs.Borrow.{Bor}
 use Rattle.script.specs.Cutting.{lines_of}
