@@ -4,6 +4,7 @@ use Rattle.std.specs.List.{join_with_byte}
 use Rattle.std.specs.Option.{ok_or}
 use Rattle.script.specs.Cutting.{words_of}
 use Rattle.script.specs.Words.{Left, first_of, fault_at, read_at, behind_first, and_then, with_end, spelt}
+use Rattle.script.specs.declared.faults.Expected.{Expected}
 use Rattle.script.specs.declared.faults.Expected.TheVariants.{Header as NoHeader, Service as NoService, PlainService}
 use Rattle.script.specs.declared.faults.Fault.{Fault}
 use Rattle.script.specs.declared.headers.Header.{Header}
@@ -13,23 +14,28 @@ use Rattle.script.specs.declared.headers.RegisterKind.TheVariants.{Glyphs, Relea
 use Rattle.script.specs.declared.headers.ServiceKind.{ServiceKind}
 use Rattle.script.specs.declared.headers.ServiceKind.TheVariants.{Alone, Sessions}
 
+-- the word that names a register
+abbrev pub register_word : RegisterKind → List ℕ
+register_word Glyphs = codes "glyphs"
+register_word Release = codes "release"
+
 -- the register that a word names
 abbrev pub register_of : List ℕ → Option RegisterKind
-register_of w = if spelt (codes "glyphs") w then Some Glyphs else (if spelt (codes "release") w then Some Release else None)
+register_of w = if spelt (register_word Glyphs) w then Some Glyphs else (if spelt (register_word Release) w then Some Release else None)
 
--- a register below the word `sessions`, and nothing behind it
+-- a register that makes a service, and nothing behind it
+abbrev pub register_at : Expected → (RegisterKind → ServiceKind) → Left → Result ServiceKind Fault
+register_at what service left = and_then (read_at what register_of left) (λ register. with_end (behind_first left) (service register))
+
+-- behind the word `sessions`
 abbrev pub sessions_of : Left → Result ServiceKind Fault
-sessions_of left = and_then (read_at PlainService register_of left) (λ register. with_end (behind_first left) (Sessions register))
-
--- a register alone, and nothing behind it
-abbrev pub alone_of : Left → Result ServiceKind Fault
-alone_of left = and_then (read_at NoService register_of left) (λ register. with_end (behind_first left) (Alone register))
+sessions_of = register_at PlainService Sessions
 
 -- a service, and nothing behind it
 unfoldable pub service_of : Left → Result ServiceKind Fault
 service_of left =
     and_then (ok_or (first_of left.words) (fault_at left.place NoService)) (λ w.
-    if spelt (codes "sessions") w then sessions_of (behind_first left) else alone_of left)
+    if spelt (codes "sessions") w then sessions_of (behind_first left) else register_at NoService Alone left)
 
 -- no words say nothing; `register SERVICE` names a service
 abbrev pub header_of : List (List ℕ) → Result (Option Header) Fault
@@ -39,10 +45,6 @@ header_of (w ∷ ws) =
     else Err (fault_at 1 NoHeader)
 
 -- a header as it is written: its words in order, with one space between them
-abbrev pub register_word : RegisterKind → List ℕ
-register_word Glyphs = codes "glyphs"
-register_word Release = codes "release"
-
 abbrev pub service_words : ServiceKind → List (List ℕ)
 service_words (Alone register) = register_word register ∷ []
 service_words (Sessions register) = codes "sessions" ∷ register_word register ∷ []
