@@ -128,3 +128,6 @@ words_cut_back blank [] is each = refl
 words_cut_back blank (w ∷ ws) is each =
     ap (λ line. full (slice_split is_blank line)) (before_all is_hash _ (plain_words blank is (w ∷ ws) each))
     ∙ ap full (cut_words blank is w ws each) ∙ full_words (w ∷ ws) each
+
+-- what the goals of `next_word` want
+pub ruleset words = (no_word, one_word, words_cut_back)

@@ -42,3 +42,6 @@ unfolding lines_of
 lines_cut_back [] each = refl
 lines_cut_back (line ∷ lines) each =
     simp append_assoc (line_on line (ended lines) each.0 ∙ ap (λ (ls : List (List ℕ)). line ∷ ls) (lines_cut_back lines each.1))
+
+-- what the goals of `next_line` want
+pub ruleset rows = (no_line, lines_cut_back)

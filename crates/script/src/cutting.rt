@@ -6,7 +6,7 @@ ghost use Rattle.script.specs.Cutting.{Computes, is_blank, ends_word, from_first
 
 /// The first line of a text without its end, and what follows it. Call by call it gives all lines of the text, and
 /// lines that are written with their ends come back as they were.
-#[tactic(auto, using(crate::proofs::Rows::no_line, crate::proofs::Rows::lines_cut_back))]
+#[tactic(auto, using(crate::proofs::Rows::rows))]
 pub fn next_line(text: &[u8]) -> Option<(&[u8], &[u8])>
     ensures value { option_map (λ p. (p.0.now, p.1.now)) result ≡ first_line text.now }
     ensures lines { lines_of text.now ≡ lines_by (option_map (λ p. (p.0.now, p.1.now)) result) }
@@ -25,6 +25,7 @@ pub fn next_line(text: &[u8]) -> Option<(&[u8], &[u8])>
 
 /// The first word of a line, and what is left of the line. A `#` begins a comment, in which there are no words.
 /// Call by call it gives all words of the line, and words with one blank between them come back as they were.
+#[tactic(auto, using(crate::proofs::Pieces::words))]
 pub fn next_word(line: &[u8]) -> Option<(&[u8], &[u8])>
     ensures value { option_map (λ p. (p.0.now, p.1.now)) result ≡ first_word line.now }
     ensures words { words_of line.now ≡ words_by (option_map (λ p. (p.0.now, p.1.now)) result) }

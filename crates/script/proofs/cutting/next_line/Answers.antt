@@ -1,27 +1,34 @@
 -- The first line and the lines behind it, with and without a line end.
 use Rattle.std.proofs.Common.{rules, ◌≡◌, ap, ◌∙◌, sym, length, take, drop, ◌-◌, arith}
-use Rattle.std.proofs.lemmas.List.{take_rest, drop-drop, length-drop, nil_from_length}
+use Rattle.std.proofs.lemmas.List.{take_rest, drop-drop, nil_from_length}
 use Rattle.std.specs.List.{after_first, position_or_len}
 use Rattle.script.specs.Cutting.{is_line_end}
-use Rattle.script.proofs.Rows.{one_line, lines_cut_back}
+use Rattle.script.proofs.Rows.{one_line}
 use Rattle.script.proofs.cutting.next_line.Goals as goal
 
-pub returns-in-len1-up : goal.returns-in-len1-up
-returns-in-len1-up c =
+behind_end : (c : goal.In-len1-up) → take (length c.split_at_first.result.1.now - 1) (drop 1 c.split_at_first.result.1.now) ≡ after_first is_line_end c.args.text.now
+behind_end c =
     let text = c.args.text.now in
-    let behind = c.split_at_first.result.1.now in
-    let parts = c.split_at_first.ensures.parts is_line_end (λ b r e. search rules) in
-    let rest : take (length behind - 1) (drop 1 behind) ≡ after_first is_line_end text = take_rest behind 1 ∙ ap (drop 1) parts.1 ∙ drop-drop 1 (position_or_len is_line_end text) text in
-    let first = one_line text (search rules) in
-    record { value = grind (arith, rest); lines = cc; back = lines_cut_back; shorter = simp (take_rest, length-drop) (search rules) }
+    take_rest c.split_at_first.result.1.now 1
+    ∙ ap (drop 1) (c.split_at_first.ensures.parts is_line_end (λ b r e. search rules)).1
+    ∙ drop-drop 1 (position_or_len is_line_end text) text
 
-pub returns-in-empty : goal.returns-in-empty
-returns-in-empty c =
-    let text = c.args.text.now in
-    let behind = c.split_at_first.result.1.now in
+pub returns-in-len1-up-clause-value : goal.returns-in-len1-up-clause-value
+returns-in-len1-up-clause-value c =
     let parts = c.split_at_first.ensures.parts is_line_end (λ b r e. search rules) in
-    let none : length behind ≡ 0 = search rules in
-    let nil = nil_from_length behind none in
-    let rest : behind ≡ after_first is_line_end text = nil ∙ sym (ap (drop 1) (sym parts.1 ∙ nil)) ∙ drop-drop 1 (position_or_len is_line_end text) text in
+    grind (arith, behind_end c)
+
+pub returns-in-len1-up-clause-lines : goal.returns-in-len1-up-clause-lines
+returns-in-len1-up-clause-lines c =
+    let parts = c.split_at_first.ensures.parts is_line_end (λ b r e. search rules) in
+    let first = one_line c.args.text.now (search rules) in
+    cc (behind_end c)
+
+pub returns-in-empty-clause-lines : goal.returns-in-empty-clause-lines
+returns-in-empty-clause-lines c =
+    let text = c.args.text.now in
+    let parts = c.split_at_first.ensures.parts is_line_end (λ b r e. search rules) in
+    let nil = nil_from_length c.split_at_first.result.1.now (search rules) in
+    let none = sym (drop-drop 1 (position_or_len is_line_end text) text) ∙ ap (drop 1) (sym parts.1 ∙ nil) in
     let first = one_line text (search rules) in
-    record { value = grind (arith, rest); lines = cc; back = lines_cut_back; shorter = search rules }
+    cc
