@@ -2,21 +2,17 @@
 use super::records::{close, show_rows};
 use super::stops::Stop;
 use registers::{GlyphRegister, ReleaseLine};
-use script::{Entry, Header, Lines, ServiceKind, Tally, read_entry, read_header};
+use script::{Entry, Header, Lines, RegisterKind, ServiceKind, Tally, read_entry, read_header};
 use service::{Service, Sessions};
 
 /// Plays a whole script. One without a header line does nothing.
 pub fn play(rt: &HostRuntime, script: &[u8]) -> Result<(), Stop> {
     let mut lines = Lines::of(script);
-    while let Some(line) = lines.next() {
-        let number = lines.number();
-        match read_header(line) {
-            Err(fault) => return Err(Stop::Line(number, fault)),
-            Ok(None) => {}
-            Ok(Some(Header::Register(kind))) => {
-                println!(rt; "{number} register {kind}")?;
-                return play_register(rt, kind, lines);
-            }
+    for (number, line) in lines.by_ref() {
+        let header = read_header(line).map_err(|fault| Stop::Line(number, fault))?;
+        if let Some(Header::Register(kind)) = header {
+            println!(rt; "{number} register {kind}")?;
+            return play_register(rt, kind, lines);
         }
     }
     Ok(())
@@ -26,21 +22,21 @@ pub fn play(rt: &HostRuntime, script: &[u8]) -> Result<(), Stop> {
 fn play_register(rt: &HostRuntime, kind: ServiceKind, lines: Lines) -> Result<(), Stop> {
     let heap = rt.alloc();
     match kind {
-        ServiceKind::Glyphs => {
+        ServiceKind::Alone(RegisterKind::Glyphs) => {
             let mut glyphs = GlyphRegister::new(heap)?;
             play_entries(rt, &mut glyphs, lines)?;
             show_rows(rt, glyphs.rows())
         }
-        ServiceKind::Release => {
+        ServiceKind::Alone(RegisterKind::Release) => {
             let mut line = ReleaseLine::new();
             play_entries(rt, &mut line, lines)
         }
-        ServiceKind::SessionsGlyphs => {
+        ServiceKind::Sessions(RegisterKind::Glyphs) => {
             let mut sessions = Sessions::new(GlyphRegister::new(heap)?);
             play_entries(rt, &mut sessions, lines)?;
             show_rows(rt, sessions.below().rows())
         }
-        ServiceKind::SessionsRelease => {
+        ServiceKind::Sessions(RegisterKind::Release) => {
             let mut sessions = Sessions::new(ReleaseLine::new());
             play_entries(rt, &mut sessions, lines)
         }
@@ -49,18 +45,13 @@ fn play_register(rt: &HostRuntime, kind: ServiceKind, lines: Lines) -> Result<()
 
 // Applies the entries behind a header to any service, and closes the record.
 fn play_entries<S: Service>(rt: &HostRuntime, service: &mut S, lines: Lines) -> Result<(), Stop> {
-    let mut lines = lines;
     let mut tally = Tally::new();
-    while let Some(line) = lines.next() {
-        let number = lines.number();
-        match read_entry(line) {
-            Err(fault) => return Err(Stop::Line(number, fault)),
-            Ok(None) => {}
-            Ok(Some(Entry::Apply(request))) => {
-                let (status, value) = service.apply(request);
-                tally.note(status);
-                println!(rt; "{number} apply status {status} value {value}")?;
-            }
+    for (number, line) in lines {
+        let entry = read_entry(line).map_err(|fault| Stop::Line(number, fault))?;
+        if let Some(Entry::Apply(request)) = entry {
+            let (status, value) = service.apply(request);
+            tally.note(status);
+            println!(rt; "{number} apply status {status} value {value}")?;
         }
     }
     close(rt, service, &tally)

@@ -1,5 +1,5 @@
 -- What is left of a text, line by line.
-use Rattle.std.specs.Prelude.{◌≡◌, ℕ, ◌<◌, true, List, [], ◌∷◌, length, Option, is_some}
+use Rattle.std.specs.Prelude.{◌≡◌, ℕ, ◌<◌, if◌then◌else◌, true, List, [], ◌∷◌, length, Option, is_some}
 use Rattle.std.specs.Iterator.{YieldsFirstBy}
 use Rattle.std.specs.Borrow.{Bor}
 use Rattle.script.specs.Cutting.{lines_of}
@@ -14,6 +14,10 @@ numbered n (line ∷ lines) = (one_more n, line) ∷ numbered (one_more n) lines
 abbrev pub lines_left : Lines → List (ℕ × List ℕ)
 lines_left lines = numbered lines.number (lines_of lines.rest.now)
 
--- a call of `next` gives the first line that is left, with its number, and leaves the others, in fewer bytes
+-- a call of `next` gives the first line that is left, with its number, and leaves the others, in fewer bytes; behind the
+-- last line the number stays
 abbrev pub NextLine : Lines → Option (ℕ × Bor (List ℕ)) → Lines → Type 0
-NextLine s r t = YieldsFirstBy (λ p. (p.0, p.1.now)) lines_left s r t × (is_some r ≡ true → length t.rest.now < length s.rest.now)
+NextLine s r t =
+    YieldsFirstBy (λ p. (p.0, p.1.now)) lines_left s r t
+    × (t.number ≡ (if is_some r then one_more s.number else s.number))
+    × (is_some r ≡ true → length t.rest.now < length s.rest.now)

@@ -81,10 +81,11 @@ impl Function {
 }
 
 // Published bytes, with which a result begins. There must be some.
+#[derive(Clone, Copy)]
 struct Published<'a>(&'a [u8]);
 
 impl Published<'_> {
-    fn begins(&self, ours: &[u8]) -> Result<(), Fault> {
+    fn begins(self, ours: &[u8]) -> Result<(), Fault> {
         if self.0.is_empty() || !ours.starts_with(self.0) {
             return Err(Fault::Differs);
         }

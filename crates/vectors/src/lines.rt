@@ -6,6 +6,7 @@ use script::next_word;
 use std::alloc::Global;
 
 // A line that is read word by word.
+#[derive(Clone, Copy)]
 struct Line<'a> {
     number: u64,
     rest: &'a [u8],
@@ -26,7 +27,7 @@ impl<'a> Line<'a> {
     }
 
     // That the line is at fault.
-    fn stop(&self, fault: Fault) -> Stop {
+    fn stop(self, fault: Fault) -> Stop {
         Stop::Line(self.number, fault)
     }
 }

@@ -22,10 +22,8 @@ fn main(rt: HostRuntime) -> ExitCode {
 
 fn run(rt: &HostRuntime) -> Result<(), Stop> {
     let text = read_input(rt)?;
-    let mut lines = Lines::of(text.as_slice());
     let mut agreed = 0u64;
-    while let Some(line) = lines.next() {
-        let number = lines.number();
+    for (number, line) in Lines::of(text.as_slice()) {
         if let Some(function) = run_line(rt.alloc(), number, line)? {
             agreed = agreed.saturating_add(1);
             println!(rt; "{number} {function}: as published")?;

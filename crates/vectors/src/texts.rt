@@ -4,7 +4,7 @@ use std::alloc::{AllocError, Global};
 
 /// The bytes of a word: `-` for none, hexadecimal digits, or `COUNT*DIGITS` for those bytes COUNT times.
 pub fn read_bytes(heap: Global, word: &[u8]) -> Result<Option<Vec<u8>>, AllocError> {
-    if word == b"-" {
+    if matches!(word, b"-") {
         return Ok(Some(Vec::new(heap)));
     }
     let Some(star) = word.iter().position(|byte| *byte == b'*') else {
