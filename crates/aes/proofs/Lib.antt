@@ -1,5 +1,4 @@
 -- The lemmas of the crate, and those that the crates above cite.
-mod Arrays
 mod Cuts
 mod SboxTable
 mod Steps

@@ -1,5 +1,4 @@
 -- What several proofs share.
-mod Arrays
 mod Schedules
 mod Parsing
 mod Padding

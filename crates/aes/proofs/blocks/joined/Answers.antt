@@ -1,6 +1,6 @@
 -- Each byte, by its word and its place.
 use Rattle.std.proofs.Common.{[], ◌/◌, ◌%◌, get_or, rules}
-use Rattle.aes.proofs.Arrays.{from_fn_same}
+use Rattle.streams.proofs.Arrays.{from_fn_same}
 use Rattle.aes.proofs.blocks.joined.Goals as goal
 
 pub returns : goal.returns

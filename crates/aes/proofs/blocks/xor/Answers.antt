@@ -1,7 +1,7 @@
 -- The sum at each place.
 use Rattle.std.proofs.Common.{◌≡◌, length, get_or, ◌∙◌, arith, rules}
 use lib.Bits.{bit_xor}
-use Rattle.aes.proofs.Arrays.{from_fn_same}
+use Rattle.streams.proofs.Arrays.{from_fn_same}
 use Rattle.aes.proofs.Sums.{xors_places}
 use Rattle.aes.proofs.blocks.xor.Goals as goal
 

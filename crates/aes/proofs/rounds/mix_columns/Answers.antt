@@ -1,7 +1,7 @@
 -- The four columns one behind the other.
 use Rattle.std.proofs.Common.{◌≡◌, ℕ, List, [], ◌∷◌, map, get_or, refl, ap, ◌∙◌, rules}
 use Rattle.aes.specs.Cipher.{joined, mix_column, mix_columns, word}
-use Rattle.aes.proofs.Arrays.{map_by}
+use Rattle.streams.proofs.Arrays.{map_by}
 use Rattle.aes.proofs.rounds.mix_columns.Goals as goal
 
 abbrev mixed : List ℕ → List ℕ

@@ -2,7 +2,7 @@
 use Rattle.std.proofs.Common.{arith, rules}
 use Rattle.aes.specs.Field.{sbox}
 use Rattle.aes.specs.Cipher.{sub_bytes}
-use Rattle.aes.proofs.Arrays.{map_by}
+use Rattle.streams.proofs.Arrays.{map_by}
 use Rattle.aes.proofs.rounds.sub_bytes.Goals as goal
 
 pub returns : goal.returns

@@ -1,7 +1,7 @@
 -- Each byte moves, and the last one takes in a 0, as nothing stands behind it.
 use Rattle.std.proofs.Common.{◌+◌, get_or, rules}
 use Rattle.aes.specs.Cmac.{moved_left, shift_left}
-use Rattle.aes.proofs.Arrays.{from_fn_same}
+use Rattle.streams.proofs.Arrays.{from_fn_same}
 use Rattle.aes.proofs.subkeys.shift_left.Goals as goal
 
 pub returns : goal.returns

@@ -2,7 +2,7 @@
 use Rattle.std.proofs.Common.{◌≡◌, [], refl, add-one, rules}
 use Rattle.aes.specs.Cipher.{round_key, rcon, key_expansion}
 use Rattle.aes.proofs.SboxTable.{inverses}
-use Rattle.aes.proofs.Arrays.{from_fn_along}
+use Rattle.streams.proofs.Arrays.{from_fn_along}
 use Rattle.aes.proofs.ciphers.Aes128.new.Goals as goal
 
 pub returns : goal.returns

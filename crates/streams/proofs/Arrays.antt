@@ -1,9 +1,9 @@
 -- Arrays made by calls of a closure: what `array::from_fn` and `map` give.
-use Rattle.std.proofs.Common.{◌≡◌, ℕ, zero, suc, ◌+◌, ◌<◌, List, map, length, get_or, refl, subst, sym, ◌∙◌, arith}
+use Rattle.std.proofs.Common.{◌≡◌, ℕ, zero, suc, ◌+◌, ◌<◌, List, map, length, get_or, refl, ap, subst, sym, ◌∙◌, arith}
 use Rattle.std.specs.List.{range_with_len}
-use Rattle.std.specs.Array.{IsFromFnResult, IsFromFnResultFrom, IsMapOf}
+use Rattle.std.specs.Array.{IsFromFnResult, IsFromFnResultFrom, MapsFrom, IsMapOf}
 use Rattle.std.specs.Fn.{Called}
-use Rattle.std.proofs.lemmas.List.{ext_get_or, length-map, get_or-map}
+use Rattle.std.proofs.lemmas.List.{ext_get_or, same_lists, length-map, get_or-map}
 use Rattle.std.proofs.lemmas.List.FromFn.{fill_by_all}
 use denote.Param.Members.{Mut}
 
@@ -38,3 +38,18 @@ map_by g h d e f xs ys n step l all =
     let here : k < length xs = omega arith in
     let call = all.at k d e within in
     step call.0 (get_or xs k d) (get_or ys k e) call.1 call.2 ∙ sym (get_or-map h xs k d e here))
+
+-- `map` by a closure that captures something and changes nothing
+module _ {F B : Type 0} (g : Mut F (ℕ × Unit {0}) B) (f : F) (h : ℕ → B) (acts : (x : ℕ) (y : B) (q : F) → Called g f (x, tt) y q → (q ≡ f) × (y ≡ h x)) where
+  mapped_at : (xs : List ℕ) (ys : List B) (n i j k : ℕ) (e : B) → MapsFrom g f xs ys i n → k < n → i + k ≡ j → get_or ys j e ≡ h (get_or xs j 0)
+  mapped_at xs ys zero i j k e maps below at = absurd (omega arith)
+  mapped_at xs ys (suc n) i j zero e (q, x, y, x_is, y_is, call, more) below at =
+      let here : i ≡ j = omega arith in
+      subst (λ m. get_or ys m e ≡ h (get_or xs m 0)) here (y_is.1 e ∙ (acts x y q call).1 ∙ ap h (sym (x_is.1 0)))
+  mapped_at xs ys (suc n) i j (suc k) e (q, x, y, x_is, y_is, call, more) below at =
+      mapped_at xs ys n (i + 1) j k e (subst (λ s. MapsFrom g s xs ys (i + 1) n) (acts x y q call).0 more) (omega arith) (omega arith)
+
+  pub map_same : (xs : List ℕ) (ys : List B) (n : ℕ) → IsMapOf g f xs ys n → length xs ≡ n → ys ≡ map h xs
+  map_same xs ys n maps long =
+      same_lists ys (map h xs) (maps.long ∙ sym long ∙ sym (length-map xs h))
+      (λ k e below. mapped_at xs ys n 0 k k e maps.each (rw (← maps.long) below) (omega arith) ∙ sym (get_or-map h xs k 0 e (rw (long, ← maps.long) below)))

@@ -1,0 +1,2 @@
+-- Lemmas that the crates of hashes and tags share.
+pub mod Arrays
