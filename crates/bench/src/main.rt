@@ -24,7 +24,7 @@ fn run(rt: &HostRuntime) -> Result<(), Stop> {
         return show_all(rt);
     };
     let count = arguments.next().ok_or(Stop::Arguments)?;
-    let work = Work::named(work.as_str()).ok_or(Stop::Arguments)?;
+    let work = work.as_str().parse::<Work>()?;
     let count = read_number(count.as_bytes()).ok_or(Stop::Arguments)?;
     time(rt, work, count)
 }

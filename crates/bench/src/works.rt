@@ -1,8 +1,10 @@
 // The works that are timed: each result is written over the front of the next message, so that none can be left out.
+use super::stops::Stop;
 use aes::CmacKey;
 use sha256::{HmacKey, digest};
 use std::alloc::{AllocError, Global};
 use std::fmt;
+use std::str::FromStr;
 
 // The length of a long message, and of what a counter tags for the shortest message that carries a request.
 const LONG: usize = 16384;
@@ -41,18 +43,21 @@ impl fmt::Display for Work {
     }
 }
 
-impl Work {
-    /// The work that an argument names.
-    pub fn named(word: &str) -> Option<Work> {
+impl FromStr for Work {
+    type Err = Stop;
+
+    fn from_str(word: &str) -> Result<Work, Stop> {
         match word {
-            "sha256" => Some(Work::Digests),
-            "hmac" => Some(Work::HmacTags),
-            "cmac" => Some(Work::LongCmacTags),
-            "cmac-tags" => Some(Work::CmacTags),
-            _ => None,
+            "sha256" => Ok(Work::Digests),
+            "hmac" => Ok(Work::HmacTags),
+            "cmac" => Ok(Work::LongCmacTags),
+            "cmac-tags" => Ok(Work::CmacTags),
+            _ => Err(Stop::Arguments),
         }
     }
+}
 
+impl Work {
     /// Does the work count times, and gives the last message with the last result at its front.
     pub fn run(self, heap: Global, count: u32) -> Result<Vec<u8>, AllocError> {
         match self {

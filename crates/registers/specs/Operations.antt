@@ -1,11 +1,13 @@
--- What a request's code asks of the glyph register.
-use Rattle.std.specs.Prelude.{ℕ, cond, Some, None, Option, Result, ◌==◌}
+-- What a request's code asks of the glyph register, and of the release line.
+use Rattle.std.specs.Prelude.{ℕ, cond, Some, None, Ok, Err, Option, Result, ◌==◌}
 use Rattle.std.specs.Option.{ok_or}
 use Rattle.service.specs.declared.failures.Failure.{Failure}
 use Rattle.service.specs.declared.failures.Failure.TheVariants.{NotTaken}
 use Rattle.registers.specs.declared.operations.Measure.TheVariants.{Advance, Bearing}
 use Rattle.registers.specs.declared.operations.Operation.{Operation}
 use Rattle.registers.specs.declared.operations.Operation.TheVariants.{Set, Read}
+use Rattle.registers.specs.declared.release.Action.{Action}
+use Rattle.registers.specs.declared.release.Action.TheVariants.{Raise, Read as ReadRelease}
 
 -- code 1 sets the advance, 2 the left bearing, 3 reads the advance, 4 the bearing
 abbrev pub operation_of : ℕ → Option Operation
@@ -19,3 +21,10 @@ operation_of code =
 -- another code is not taken
 abbrev pub operation_or_failure : ℕ → Result Operation Failure
 operation_or_failure code = ok_or (operation_of code) NotTaken
+
+-- code 1 raises the release line, 2 reads it
+abbrev pub action_or_failure : ℕ → Result Action Failure
+action_or_failure code =
+    cond (code == 1) (Ok Raise)
+    (cond (code == 2) (Ok ReadRelease)
+    (Err NotTaken))

@@ -2,6 +2,7 @@
 ghost use Rattle.std.specs.Prelude.{◌≡◌, ℕ};
 ghost use Rattle.service.specs.Failures.{outcome_reply};
 ghost use Rattle.xdr.specs.Layout.{int};
+ghost use Rattle.registers.specs.Operations.{action_or_failure};
 ghost use Rattle.registers.specs.Release.{release_reply, release_next};
 ghost use Rattle.registers.specs.ReleaseLaws.{ReleaseLaws};
 
@@ -10,11 +11,29 @@ use std::marker::Model;
 use terms::Request;
 use xdr::Row;
 
-const RAISE: u32 = 1;
-
-const READ: u32 = 2;
 // The written state is one number.
 const WRITTEN_BYTES: usize = 4;
+
+// What a request's code asks of the release line.
+#[derive(Clone, Copy)]
+enum Action {
+    Raise,
+    Read,
+}
+
+impl TryFrom<u32> for Action {
+    type Error = Failure;
+
+    ghost try_from_gives = { λ code answer. answer ≡ action_or_failure code };
+
+    fn try_from(code: u32) -> Result<Action, Failure> {
+        match code {
+            1 => Ok(Action::Raise),
+            2 => Ok(Action::Read),
+            _ => Err(Failure::NotTaken),
+        }
+    }
+}
 
 /// The number of the latest release.
 #[derive(Drop, Debug)]
@@ -50,11 +69,10 @@ impl ReleaseLine {
         ensures answer { outcome_reply result ≡ release_reply self.old request }
         ensures after { self.new ≡ release_next self.old request }
     {
-        match request.code {
-            RAISE if request.value <= self.released => return Err(Failure::NotAvailable),
-            RAISE => self.released = request.value,
-            READ => {}
-            _ => return Err(Failure::NotTaken),
+        match Action::try_from(request.code)? {
+            Action::Raise if request.value <= self.released => return Err(Failure::NotAvailable),
+            Action::Raise => self.released = request.value,
+            Action::Read => {}
         }
         Ok(self.released)
     }

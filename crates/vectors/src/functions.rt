@@ -29,20 +29,23 @@ impl fmt::Display for Function {
     }
 }
 
-impl Function {
-    /// The function that a line names.
-    pub fn named(word: &[u8]) -> Option<Function> {
-        match word {
-            b"sha256" => Some(Function::Sha256),
-            b"hmac" => Some(Function::Hmac),
-            b"double" => Some(Function::Double),
-            b"aes" => Some(Function::Aes),
-            b"double-block" => Some(Function::DoubleBlock),
-            b"cmac" => Some(Function::Cmac),
-            _ => None,
+impl TryFrom<&[u8]> for Function {
+    type Error = Fault;
+
+    fn try_from(name: &[u8]) -> Result<Function, Fault> {
+        match name {
+            b"sha256" => Ok(Function::Sha256),
+            b"hmac" => Ok(Function::Hmac),
+            b"double" => Ok(Function::Double),
+            b"aes" => Ok(Function::Aes),
+            b"double-block" => Ok(Function::DoubleBlock),
+            b"cmac" => Ok(Function::Cmac),
+            _ => Err(Fault::Unread),
         }
     }
+}
 
+impl Function {
     /// Whether a key stands before the input.
     pub fn takes_key(self) -> bool {
         matches!(self, Function::Hmac | Function::Aes | Function::Cmac)

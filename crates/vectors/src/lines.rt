@@ -39,7 +39,7 @@ pub fn run_line(heap: Global, number: u64, line: &[u8]) -> Result<Option<Functio
     let Some(name) = line.word() else {
         return Ok(None);
     };
-    let function = Function::named(name).ok_or(line.stop(Fault::Unread))?;
+    let function = Function::try_from(name).map_err(|fault| line.stop(fault))?;
     let key = if function.takes_key() {
         line.bytes(heap)?
     } else {
