@@ -1,6 +1,6 @@
 // Where a script comes from.
 use super::stops::Stop;
-use console::read_input;
+use console::read_all;
 use std::{env, fs};
 
 /// The script's bytes: those of the file that the only argument names, or else all of standard input.
@@ -12,7 +12,7 @@ pub fn read_script(rt: &HostRuntime) -> Result<Vec<u8>, Stop> {
     }
     let bytes = match path {
         Some(path) => fs::read(rt, path.as_str()),
-        None => read_input(rt),
+        None => read_all(rt.alloc(), rt.stdin()),
     };
     bytes.map_err(Stop::Unread)
 }

@@ -8,7 +8,7 @@ mod proved;
 mod stops;
 mod texts;
 
-use console::{read_input, told};
+use console::{read_all, told};
 use lines::run_line;
 use proved::proved_results;
 use script::Lines;
@@ -21,7 +21,7 @@ fn main(rt: HostRuntime) -> ExitCode {
 }
 
 fn run(rt: &HostRuntime) -> Result<(), Stop> {
-    let text = read_input(rt)?;
+    let text = read_all(rt.alloc(), rt.stdin())?;
     let mut agreed = 0u64;
     for (number, line) in Lines::of(text.as_slice()) {
         if let Some(function) = run_line(rt.alloc(), number, line)? {
