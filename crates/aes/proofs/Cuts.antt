@@ -5,7 +5,6 @@ use Rattle.std.specs.List.{fold}
 use Rattle.std.specs.Simd.{first_chunks}
 use Rattle.std.proofs.lemmas.List.{append_assoc, length-append, length-drop, length-take-le, take_all, take_at, take-append-le, take-append-drop, drop_at, drop-append-le, drop-drop}
 use Rattle.std.proofs.lemmas.Slice.{take-put_mid}
-use Rattle.std.proofs.lemmas.Bool.Decides.{nat_tests}
 use Rattle.aes.specs.Cipher.{xors}
 use Rattle.aes.proofs.Sums.{xors_comm}
 use Rattle.aes.specs.Cmac.{blocks, flag, block_at, m_last, chained, cmac_from}
@@ -20,20 +19,20 @@ block_behind m i =
 -- how many blocks a message that is not empty has, and its flag
 blocks_of : (len : ℕ) → 0 < len → blocks len ≡ (len + 15) / 16
 unfolding blocks
-blocks_of len h = grind (arith, nat_tests)
+blocks_of len h = grind arith
 
 flag_of : (len : ℕ) → 0 < len → flag len ≡ eqb (len % 16) 0
 unfolding flag
-flag_of len h = grind (arith, nat_tests)
+flag_of len h = grind arith
 
 -- a message of at most one block has one block, and its flag says whether that is full
 one : (len : ℕ) → len ≤ 16 → blocks len ≡ 1
 unfolding blocks
-one len h = grind (arith, nat_tests)
+one len h = grind arith
 
 full : (len : ℕ) → len ≤ 16 → flag len ≡ eqb len 16
 unfolding flag
-full len h = grind (arith, nat_tests)
+full len h = grind arith
 
 -- the whole blocks of a message are those of its front
 chunks_front : (j : ℕ) (m rest : List ℕ) → 16 * j ≤ length m → first_chunks 16 j (m ++ rest) ≡ first_chunks 16 j m

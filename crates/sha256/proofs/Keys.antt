@@ -1,7 +1,7 @@
 -- A hash that begins with the block of a key goes on from the hash value after that block.
-use Rattle.std.proofs.Common.{◌≡◌, ℕ, ◌+◌, List, ◌++◌, length, sym, ap, ◌∙◌, arith}
-use lib.Bits.{bit_xor}
-use Rattle.std.proofs.lemmas.List.{append_assoc, length-append, length-map}
+use Rattle.std.proofs.lemmas.Grind.{common_steps}
+use Rattle.std.proofs.Common.{◌≡◌, ℕ, ◌+◌, List, ◌++◌, length, sym, ap, arith}
+use Rattle.std.proofs.lemmas.List.{append_assoc, length-append}
 use Rattle.sha256.specs.Sha256.{H0, padding, compressed, digest_bytes, sha256}
 use Rattle.sha256.specs.Hmac.{ipad, opad, xored}
 use Rattle.sha256.specs.Progress.{digest_from}
@@ -17,7 +17,7 @@ digest_from_block b m long =
 -- the block of a key against a pad is a block
 xored_long : (k : List ℕ) (pad : ℕ) → length k ≡ 64 → length (xored k pad) ≡ 64
 unfolding xored
-xored_long k pad long = length-map k (λ b. bit_xor b pad) ∙ long
+xored_long k pad long = grind (arith, common_steps)
 
 -- the two hash values after the block of the key give the tags of HMAC
 pub tags_from : (k inner outer m : List ℕ) → length k ≡ 64 → inner ≡ compressed H0 (xored k ipad) → outer ≡ compressed H0 (xored k opad)

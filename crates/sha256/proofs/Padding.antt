@@ -1,21 +1,12 @@
 -- The padding depends on the count modulo 2 ^ 64 only.
-use Rattle.std.proofs.Common.{◌≡◌, ℕ, ◌+◌, ◌-◌, ◌*◌, ◌/◌, ◌%◌, ◌^◌, ◌∷◌, take, replicate, sym, ap, ◌∙◌, add-one, arith}
+use Rattle.std.proofs.Common.{◌≡◌, ℕ, ◌+◌, ◌-◌, ◌*◌, ◌%◌, ◌^◌, ◌∷◌, take, replicate, sym, ap, ◌∙◌, add-one, arith}
 use Rattle.std.proofs.lemmas.List.{take-replicate}
 use Rattle.sha256.specs.Sha256.{be64, padding}
 
 -- eight bytes have the low 64 bits
 be64_mod : (x : ℕ) → be64 (x % 2 ^ 64) ≡ be64 x
 unfolding be64
-be64_mod x =
-    let a : x % 2 ^ 64 / 2 ^ 56 % 256 ≡ x / 2 ^ 56 % 256 = omega arith in
-    let b : x % 2 ^ 64 / 2 ^ 48 % 256 ≡ x / 2 ^ 48 % 256 = omega arith in
-    let c : x % 2 ^ 64 / 2 ^ 40 % 256 ≡ x / 2 ^ 40 % 256 = omega arith in
-    let d : x % 2 ^ 64 / 2 ^ 32 % 256 ≡ x / 2 ^ 32 % 256 = omega arith in
-    let e : x % 2 ^ 64 / 2 ^ 24 % 256 ≡ x / 2 ^ 24 % 256 = omega arith in
-    let f : x % 2 ^ 64 / 2 ^ 16 % 256 ≡ x / 2 ^ 16 % 256 = omega arith in
-    let g : x % 2 ^ 64 / 2 ^ 8 % 256 ≡ x / 2 ^ 8 % 256 = omega arith in
-    let h : x % 2 ^ 64 % 256 ≡ x % 256 = omega arith in
-    cc
+be64_mod x = grind arith
 
 -- counts that are the same modulo 2 ^ 64 have the same padding
 pub padding_mod : (m n : ℕ) → m % 2 ^ 64 ≡ n % 2 ^ 64 → padding m ≡ padding n

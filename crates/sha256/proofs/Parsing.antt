@@ -1,4 +1,5 @@
 -- A message that is parsed into blocks, block by block.
+use Rattle.std.proofs.lemmas.Grind.{common_steps}
 use Rattle.std.proofs.Common.{◌≡◌, ℕ, zero, suc, ◌+◌, ◌*◌, ◌/◌, ◌<◌, ◌≤◌, List, [], ◌∷◌, ◌++◌, length, get_or, take, drop, sym, refl, ap, ◌∙◌, arith}
 use Rattle.std.specs.List.{flat_map, fold}
 use Rattle.std.specs.Simd.{first_chunks}
@@ -16,7 +17,7 @@ parsed_block b rest long =
 
 parsed_short : (m : List ℕ) → length m / 64 ≡ 0 → parsed m ≡ []
 unfolding parsed blocks
-parsed_short m none = ap (λ n. blocks n m) none
+parsed_short m none = grind arith
 
 -- what is hashed block by block
 pub hashed_block : (h b rest : List ℕ) → length b ≡ 64 → hashed h (parsed (b ++ rest)) ≡ hashed (compressed h b) (parsed rest)
@@ -45,7 +46,7 @@ hashed_whole h (b ∷ bs) rest all =
 
 -- the two parts of a list
 pub cut_joined : {n : ℕ} (xs front back : List ℕ) → n ≤ length xs → front ≡ take n xs → back ≡ drop n xs → front ++ back ≡ xs
-cut_joined {n} xs front back long e f = rw (e, f) (take-append-drop n xs)
+cut_joined {n} xs front back long e f = grind (arith, common_steps)
 
 first_chunks_joined : (n k : ℕ) (xs : List ℕ) → flat_map (λ b. b) (first_chunks n k xs) ++ drop (k * n) xs ≡ xs
 first_chunks_joined n zero xs =

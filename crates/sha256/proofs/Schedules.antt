@@ -1,10 +1,10 @@
 -- The schedule word by word, and the rounds in rows of eight.
+use Rattle.std.proofs.lemmas.Grind.{common_steps}
 use Rattle.std.proofs.Common.{◌≡◌, ℕ, zero, suc, ◌-◌, ◌*◌, ◌<◌, ◌≤◌, List, [], ◌∷◌, ◌++◌, map, length, get_or, take, drop, sym, refl, ap, ◌∙◌, arith}
 use Rattle.std.specs.List.{fold, zip, range_with_len}
 use Rattle.std.specs.Simd.{first_chunks}
-use Rattle.std.proofs.lemmas.List.FromFn.{fill_by_all}
-use Rattle.std.proofs.lemmas.List.{length-take-le, length-drop, take-append-drop, get_or-take}
-use Rattle.sha256.specs.Sha256.{scheduled, next, extended, round, rounds}
+use Rattle.std.proofs.lemmas.List.{length-take-le, length-drop, take-append-drop}
+use Rattle.sha256.specs.Sha256.{scheduled, extended, round, rounds}
 
 -- rounds in two parts
 rounds_append : (s ks ls ws vs : List ℕ) → length ks ≡ length ws → rounds s (ks ++ ls) (ws ++ vs) ≡ rounds (rounds s ks ws) ls vs
@@ -38,7 +38,7 @@ rounds_by_rows n s ks ws k_rows w_rows k_is w_is k_long w_long = rw (k_is, w_is)
 
 -- a list of eight is its elements
 eight : (w : List ℕ) → length w ≡ 8 → w ≡ map (λ i. get_or w i 0) (range_with_len 0 8)
-eight w long = fill_by_all (λ i. get_or w i 0) w 8 0 long (λ i h. refl)
+eight w long = grind (arith, common_steps)
 
 -- eight rounds, one after the other
 pub rounds_eight : (s k w : List ℕ) → length k ≡ 8 → length w ≡ 8 → rounds s k w ≡
@@ -51,23 +51,15 @@ pub rounds_eight : (s k w : List ℕ) → length k ≡ 8 → length w ≡ 8 → 
     let s7 = round s6 (get_or k 6 0) (get_or w 6 0) in
     round s7 (get_or k 7 0) (get_or w 7 0))
 unfolding rounds
-rounds_eight s k w k_long w_long =
-    ap (λ x. rounds s x w) (eight k k_long) ∙ ap (rounds s (map (λ i. get_or k i 0) (range_with_len 0 8))) (eight w w_long)
+rounds_eight s k w k_long w_long = grind (arith, common_steps)
 
 -- the word at place t, behind the t words before it
 pub extended_more : (left less t : ℕ) (w : List ℕ) (x : ℕ) → left ≡ suc less → 16 ≤ t → t < length w
     → x ≡ scheduled (get_or w (t - 2) 0) (get_or w (t - 7) 0) (get_or w (t - 15) 0) (get_or w (t - 16) 0)
     → extended less (take t w ++ x ∷ []) ≡ extended left (take t w)
 unfolding extended
-extended_more left less t w x e few below x_is =
-    let long : length (take t w) ≡ t = length-take-le t w (omega arith) in
-    let w2 = get_or-take t w (t - 2) 0 (omega arith) in
-    let w7 = get_or-take t w (t - 7) 0 (omega arith) in
-    let w15 = get_or-take t w (t - 15) 0 (omega arith) in
-    let w16 = get_or-take t w (t - 16) 0 (omega arith) in
-    let x_next : x ≡ next (take t w) = cc in
-    ap (λ y. extended less (take t w ++ y ∷ [])) x_next ∙ ap (λ n. extended n (take t w)) (sym e)
+extended_more left less t w x e few below x_is = grind (arith, common_steps)
 
 pub extended_all : (left : ℕ) (w : List ℕ) → left ≡ 0 → extended left w ≡ w
 unfolding extended
-extended_all left w none = ap (λ n. extended n w) none
+extended_all left w none = grind arith

@@ -1,4 +1,5 @@
 -- What a hash in progress becomes when bytes come, and what it gives then.
+use Rattle.std.proofs.lemmas.Grind.{common_steps}
 use Rattle.std.proofs.Common.{◌≡◌, ℕ, ◌+◌, ◌-◌, ◌*◌, ◌%◌, ◌^◌, ◌<◌, List, [], ◌∷◌, ◌++◌, length, get_or, replicate, sym, refl, ap, add-zero, ◌∙◌, arith}
 use Rattle.std.specs.List.{flat_map, fold}
 use Rattle.std.proofs.lemmas.List.{append_assoc, append-nil, length-append, length-replicate}
@@ -19,20 +20,11 @@ digest_after_taken s t bytes took rest =
 
 -- bytes that come in two parts
 pub both_taken : (s t u : Sha256) (a b : List ℕ) → TakesIn s a t → TakesIn t b u → TakesIn s (a ++ b) u
-both_taken s t u a b first second =
-    let counted = first.counted in
-    let more = second.counted in
-    record {
-      counted = simp length-append (omega arith);
-      absorbed = λ tail. rw append_assoc (second.absorbed tail ∙ first.absorbed (b ++ tail));
-    }
+both_taken s t u a b first second = grind (arith, common_steps)
 
 -- bytes that wait behind the others
 pub held : (s t : Sha256) (bytes : List ℕ) → t.count ≡ (s.count + length bytes) % 2 ^ 64 → t.h ≡ s.h → waiting t ≡ waiting s ++ bytes → TakesIn s bytes t
-held s t bytes counted same wait = record {
-  counted = counted;
-  absorbed = λ tail. rw (same, wait, append_assoc) refl;
-}
+held s t bytes counted same wait = grind (arith, common_steps)
 
 -- bytes that fill a block, which is hashed
 pub completed : (s t : Sha256) (bytes : List ℕ) → t.count ≡ (s.count + length bytes) % 2 ^ 64 → s.count % 64 + length bytes ≡ 64
