@@ -2,7 +2,7 @@
 ghost use Rattle.std.specs.Prelude.{◌≡◌};
 ghost use Rattle.counter.specs.Statements.{stated, head_bytes, StatementsApart};
 
-use xdr::put_rows;
+use xdr::Writer;
 
 /// The bytes of a statement before its message: three unsigned ints and two unsigned hypers.
 pub const HEAD_BYTES: usize = 28;
@@ -28,8 +28,9 @@ impl Statement<'_> {
         ensures apart { StatementsApart }
     {
         let mut head = [0; HEAD_BYTES];
-        let ints = put_rows(&mut head, 0, &[self.kind, self.seat, self.number]);
-        let _ = put_rows(&mut head, ints, &[self.new, self.old]);
+        let mut writer = Writer::new(&mut head);
+        writer.put_rows(&[self.kind, self.seat, self.number]);
+        writer.put_rows(&[self.new, self.old]);
         head
     }
 }

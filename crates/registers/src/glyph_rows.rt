@@ -4,7 +4,7 @@ ghost use Rattle.registers.specs.Rows.{new_row, measure_of, with_measure, row_by
 ghost use Rattle.std.proofs.Common.{rules};
 
 use super::operations::Measure;
-use xdr::{Row, put_rows};
+use xdr::{Row, Writer};
 
 /// The bytes of a written row: three numbers.
 pub const ROW_BYTES: usize = 12;
@@ -63,7 +63,7 @@ impl Row for GlyphRow {
 
     ghost wide = { Prim.search rules };
 
-    fn put_row(&self, out: &mut [u8], at: usize) -> usize {
-        put_rows(out, at, &[self.glyph, self.advance, self.bearing])
+    fn put_row(&self, writer: &mut Writer<'_>) {
+        writer.put_rows(&[self.glyph, self.advance, self.bearing]);
     }
 }

@@ -12,7 +12,7 @@ use service::{Failure, Service, reply_of};
 use std::alloc::{AllocError, Global};
 use std::marker::Model;
 use terms::Request;
-use xdr::{Row, put_rows};
+use xdr::{Row, Writer};
 
 /// The register has room for this many glyphs.
 pub const PLACES: usize = 64;
@@ -144,12 +144,14 @@ impl Service for GlyphRegister {
         COUNT_BYTES + ROW_BYTES * self.rows.len()
     }
 
-    #[tactic(auto, using(crate::proofs::Written::written_length, crate::proofs::Written::none_written, crate::proofs::Written::all_written))]
+    #[tactic(auto, using(crate::proofs::Written::written_length, crate::proofs::Written::none_written, crate::proofs::Written::rows_fit, crate::proofs::Written::all_written))]
     fn write(&self, out: &mut [u8]) -> Option<usize> {
         if out.len() < self.written_len() {
             return None;
         }
-        let at = (self.rows.len() as u32).put_row(out, 0);
-        Some(put_rows(out, at, &self.rows))
+        let mut writer = Writer::new(out);
+        (self.rows.len() as u32).put_row(&mut writer);
+        writer.put_rows(&self.rows);
+        Some(writer.position())
     }
 }

@@ -9,7 +9,7 @@ ghost use Rattle.registers.specs.ReleaseLaws.{ReleaseLaws};
 use service::{Failure, Service, reply_of};
 use std::marker::Model;
 use terms::Request;
-use xdr::Row;
+use xdr::{Row, Writer};
 
 // The written state is one number.
 const WRITTEN_BYTES: usize = 4;
@@ -101,6 +101,8 @@ impl Service for ReleaseLine {
         if out.len() < WRITTEN_BYTES {
             return None;
         }
-        Some(self.released.put_row(out, 0))
+        let mut writer = Writer::new(out);
+        self.released.put_row(&mut writer);
+        Some(writer.position())
     }
 }

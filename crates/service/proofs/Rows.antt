@@ -5,6 +5,8 @@ use borrow.Rule.Slice.PartMut.{put_mid}
 use Rattle.std.specs.List.{flat_map}
 use Rattle.std.proofs.lemmas.List.{take_rest}
 use Rattle.xdr.specs.Layout.{pasted}
+use Rattle.xdr.specs.Writing.{wrote}
+use Rattle.xdr.specs.declared.writer.Writer.{Writer}
 use Rattle.xdr.proofs.Listing.{length-joined}
 use Rattle.xdr.proofs.Pasting.{pasted_behind}
 use Rattle.xdr.proofs.Widths.{every}
@@ -18,7 +20,7 @@ use Rattle.service.proofs.Writes.{written_whole, written_nothing, fits_from_some
 put_back : (buffer rest : List ℕ) (n k : ℕ) → k ≡ length buffer - n → n ≤ length buffer → rest ≡ drop n buffer → put_mid n k buffer rest ≡ buffer
 put_back buffer rest n k e within same = grind (arith, common_steps)
 
-length-rows : (kept : List Kept) → length kept ≡ clients → length (flat_map kept_bytes kept) ≡ 192
+pub length-rows : (kept : List Kept) → length kept ≡ clients → length (flat_map kept_bytes kept) ≡ 192
 length-rows kept full = length-joined kept_bytes 12 kept (every (λ k. length (kept_bytes k) ≡ 12) (λ k. search rules) kept) ∙ ap (λ n. 12 * n) full
 
 -- the part of a buffer behind the rows
@@ -44,16 +46,17 @@ module _ {St : Type 0} (written : St → List ℕ) (kept : List Kept) (below : S
       let same : put_mid 192 (length buffer - 192) buffer rest ≡ buffer = put_back buffer rest 192 _ refl within (why.1 ∙ take_rest buffer 192) in
       ap (λ b. (None, b)) same ∙ sym (written_nothing _ buffer (omega (arith, length-written, length-behind buffer)))
 
-  -- both are written
-  pub both_written : (buffer rest after : List ℕ) (n : ℕ) → 192 ≤ length buffer → (Some n, rest) ≡ written_into (written below) (behind buffer) → after ≡ pasted (put_mid 192 (length buffer - 192) buffer rest) 0 (flat_map kept_bytes kept) → (Some (192 + n), after) ≡ written_into (session_written written (kept, below)) buffer
-  both_written buffer rest after n within some put =
+  -- both are written, the rows by a writer over the whole buffer
+  pub both_written : (buffer rest : List ℕ) (n : ℕ) (w : Writer) → 192 ≤ length buffer → (Some n, rest) ≡ written_into (written below) (behind buffer) → w.position ≡ 0 → w.out.now ≡ put_mid 192 (length buffer - 192) buffer rest
+      → (Some ((wrote w (flat_map kept_bytes kept)).position + n), (wrote w (flat_map kept_bytes kept)).out.now) ≡ written_into (session_written written (kept, below)) buffer
+  both_written buffer rest n w within some start lent =
       let why = fits_from_some (written below) (behind buffer) rest n some in
       let fits = why.0 in
       let long = why.1 in
       let back : rest ≡ pasted (drop 192 buffer) 0 (written below) = why.2 ∙ ap (λ (b : List ℕ). pasted b 0 (written below)) (take_rest buffer 192) in
       let front = pasted_behind buffer 192 (length buffer - 192) (flat_map kept_bytes kept) (written below) (length-rows kept full) within refl (omega (arith, length-behind buffer)) in
-      let whole : after ≡ pasted buffer 0 (session_written written (kept, below)) = put ∙ ap (λ (b : List ℕ). pasted (put_mid 192 (length buffer - 192) buffer b) 0 (flat_map kept_bytes kept)) back ∙ front in
-      let number : 192 + n ≡ length (session_written written (kept, below)) = omega (arith, length-written) in
+      let whole : pasted w.out.now w.position (flat_map kept_bytes kept) ≡ pasted buffer 0 (session_written written (kept, below)) = rw (start, lent, back) front in
+      let number : w.position + length (flat_map kept_bytes kept) + n ≡ length (session_written written (kept, below)) = omega (arith, start, length-rows kept full, length-written) in
       same_answer _ _ _ _ number whole ∙ sym (written_whole _ buffer (omega (arith, length-written, length-behind buffer)))
 
   -- and their length is a buffer's length at most

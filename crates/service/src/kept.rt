@@ -2,7 +2,7 @@
 ghost use Rattle.service.specs.Kept.{kept_bytes};
 ghost use Rattle.std.proofs.Common.{rules};
 
-use xdr::{Row, put_rows};
+use xdr::{Row, Writer};
 
 /// The bytes of a written row: three numbers.
 pub const KEPT_BYTES: usize = 12;
@@ -22,8 +22,8 @@ impl Row for Kept {
 
     ghost wide = { Prim.search rules };
 
-    fn put_row(&self, out: &mut [u8], at: usize) -> usize {
+    fn put_row(&self, writer: &mut Writer<'_>) {
         let (status, value) = self.reply;
-        put_rows(out, at, &[self.sequence, status, value])
+        writer.put_rows(&[self.sequence, status, value]);
     }
 }

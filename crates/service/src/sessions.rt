@@ -9,7 +9,7 @@ use super::failures::Failure;
 use super::kept::{KEPT_BYTES, Kept};
 use std::cmp::Ordering;
 use terms::Request;
-use xdr::put_rows;
+use xdr::Writer;
 
 /// Clients are numbered from 0 to one below this.
 pub const CLIENTS: usize = 16;
@@ -90,6 +90,8 @@ impl<S: Service> Service for Sessions<S> {
             return None;
         }
         let below = self.below.write(&mut out[ROWS_BYTES..])?;
-        Some(put_rows(out, 0, &self.kept) + below)
+        let mut writer = Writer::new(out);
+        writer.put_rows(&self.kept);
+        Some(writer.position() + below)
     }
 }

@@ -6,3 +6,4 @@ pub mod Opaque
 pub mod Pasting
 pub mod Rows
 pub mod Widths
+pub mod Writing

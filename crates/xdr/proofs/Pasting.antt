@@ -1,6 +1,6 @@
 -- One write after another in a buffer.
 use Rattle.std.proofs.lemmas.Grind.{common_steps}
-use Rattle.std.proofs.Common.{◌≡◌, ℕ, ◌+◌, ◌-◌, ◌≤◌, List, [], ◌++◌, length, drop, sym, ap, ◌∙◌, zero-add, arith, rules}
+use Rattle.std.proofs.Common.{◌≡◌, ℕ, ◌+◌, ◌-◌, ◌≤◌, List, [], ◌++◌, length, drop, zero-add, arith, rules}
 use borrow.Rule.Slice.PartMut.{put_mid}
 use Rattle.std.proofs.lemmas.List.{places, same_lists}
 use Rattle.xdr.specs.Layout.{pasted}
@@ -21,10 +21,6 @@ length-pasted buffer at bytes fits = search (rules, places)
 pub pasted_more : (buffer : List ℕ) (at : ℕ) (first second : List ℕ) (n : ℕ) → at + length first ≡ n → n + length second ≤ length buffer → pasted (pasted buffer at first) n second ≡ pasted buffer at (first ++ second)
 unfolding pasted
 pasted_more buffer at first second n e fits = same_lists _ _ (search (rules, places)) (λ k d l. grind (arith, places))
-
--- the buffer after two calls that wrote one behind the other
-pub pasted_then : (buffer : List ℕ) (at : ℕ) (first second : List ℕ) {middle after : List ℕ} {n : ℕ} → middle ≡ pasted buffer at first → after ≡ pasted middle n second → n ≡ at + length first → n + length second ≤ length buffer → after ≡ pasted buffer at (first ++ second)
-pasted_then buffer at first second {middle} {after} {n} e f place fits = f ∙ ap (λ (w : List ℕ). pasted w n second) e ∙ pasted_more buffer at first second n (sym place) fits
 
 -- a write to the rest of a buffer, `&mut out[n..]`, and then one in front of it
 pub pasted_behind : (buffer : List ℕ) (n k : ℕ) (front back : List ℕ) → length front ≡ n → n ≤ length buffer → k ≡ length buffer - n → n + length back ≤ length buffer → pasted (put_mid n k buffer (pasted (drop n buffer) 0 back)) 0 front ≡ pasted buffer 0 (front ++ back)

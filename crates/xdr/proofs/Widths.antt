@@ -1,15 +1,11 @@
 -- Values that all have one width, one behind the other.
-use Rattle.std.proofs.Common.{◌≡◌, ℕ, ◌+◌, ◌*◌, ◌<◌, ◌≤◌, List, [], ◌∷◌, arith}
+use Rattle.std.proofs.Common.{ℕ, ◌+◌, ◌*◌, ◌<◌, ◌≤◌, List, [], ◌∷◌, arith}
 use Rattle.std.specs.List.{AllByRecursion}
 
 -- what holds of every value holds of all in a list
 pub every : {X : Type 0} (P : X → Type 0) → ((x : X) → P x) → (xs : List X) → AllByRecursion P xs
 every P holds [] = tt
 every P holds (x ∷ xs) = (holds x, every P holds xs)
-
--- one more of a width
-pub width_more : (width n : ℕ) → width * (n + 1) ≡ width * n + width
-width_more width n = grind arith
 
 -- the next of n values ends within them
 pub width_within : (width i n : ℕ) → i < n → width * i + width ≤ width * n

@@ -2,3 +2,4 @@
 pub mod Layout
 pub mod Laws
 pub mod Reading
+pub mod Writing

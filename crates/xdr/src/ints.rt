@@ -7,7 +7,7 @@ ghost use Rattle.xdr.specs.Reading.{value_and_rest, int_from, hyper_from};
 ghost use Rattle.std.proofs.Common.{rules};
 
 use super::tables::Row;
-use super::writing::put;
+use super::writer::Writer;
 
 /// A number that can be written as a row and read back.
 pub trait Number: Row {
@@ -31,9 +31,9 @@ impl Row for u32 {
 
     ghost wide = { Prim.search rules };
 
-    fn put_row(&self, out: &mut [u8], at: usize) -> usize {
+    fn put_row(&self, writer: &mut Writer<'_>) {
         let int = self.to_be_bytes();
-        put(out, at, &int)
+        writer.put(&int);
     }
 }
 
@@ -55,9 +55,9 @@ impl Row for u64 {
 
     ghost wide = { Prim.search rules };
 
-    fn put_row(&self, out: &mut [u8], at: usize) -> usize {
+    fn put_row(&self, writer: &mut Writer<'_>) {
         let hyper = self.to_be_bytes();
-        put(out, at, &hyper)
+        writer.put(&hyper);
     }
 }
 

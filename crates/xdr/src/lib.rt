@@ -4,9 +4,9 @@
 mod ints;
 mod reading;
 mod tables;
-mod writing;
+mod writer;
 
 pub use ints::Number;
 pub use reading::{lists_exact, read_count, read_opaque, read_rows};
-pub use tables::{Row, put_rows};
-pub use writing::put;
+pub use tables::Row;
+pub use writer::Writer;
