@@ -35,9 +35,10 @@ impl<'a> Writer<'a> {
         requires { Room self.old (length bytes.now) }
         ensures { self.new ≡ wrote self.old bytes.now }
     {
-        let end = self.position + bytes.len();
-        self.out[self.position..end].copy_from_slice(bytes);
-        self.position = end;
+        let Writer { out, position } = self;
+        let end = *position + bytes.len();
+        out[*position..end].copy_from_slice(bytes);
+        *position = end;
     }
 
     /// Writes rows one behind the other.
