@@ -19,7 +19,18 @@ impl<'a> Writer<'a> {
         ensures out { result.out ≡ out.entry }
         ensures position { result.position ≡ 0 }
     {
-        Writer { out, position: 0 }
+        Writer::at(out, 0)
+    }
+
+    /// Writes from a place of a buffer on.
+    pub fn at(out: &'a mut [u8], place: usize) -> Writer<'a>
+        ensures out { result.out ≡ out.entry }
+        ensures position { result.position ≡ place }
+    {
+        Writer {
+            out,
+            position: place,
+        }
     }
 
     /// The place behind what was written.
