@@ -18,6 +18,7 @@ fn sub_word(w: Word) -> Word
 }
 
 /// The next round key, where the first byte of its Rcon is `rcon`.
+#[tactic(auto, unfolding(crate::specs::Cipher::xors, crate::specs::Cipher::next_key))]
 pub(crate) fn next_key(key: &Block, rcon: u8) -> Block
     ensures { result ≡ next_key key.now rcon }
 {

@@ -21,6 +21,7 @@ pub struct CmacKey {
 
 impl CmacKey {
     /// Makes a key ready: its round keys and, by Generate_Subkey of RFC 4493, its subkeys.
+    #[tactic(auto, unfolding(crate::specs::Cipher::xors, crate::specs::Cmac::block_at, crate::specs::Cmac::chained, crate::specs::Tags::tag_under))]
     pub fn new(key: &[u8; 16]) -> CmacKey
         ensures { (m : List ℕ) → tag_under result m ≡ cmac key.now m }
     {
@@ -33,6 +34,7 @@ impl CmacKey {
     }
 
     /// A message of which nothing has come yet.
+    #[tactic(auto, unfolding(crate::specs::Tags::tag_under, crate::specs::Tags::tag_after))]
     pub fn start(&self) -> Cmac<'_>
         ensures { (rest : List ℕ) → tag_after result rest ≡ tag_under self.now rest }
     {

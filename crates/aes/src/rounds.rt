@@ -20,6 +20,7 @@ fn shift_rows(s: Block) -> Block
     ]
 }
 
+#[tactic(auto, unfolding(crate::specs::Cipher::mix_column))]
 fn mix_column(column: Word) -> Word
     ensures { result ≡ mix_column (slice_index column 0) (slice_index column 1) (slice_index column 2) (slice_index column 3) }
 {

@@ -6,10 +6,9 @@ use std::io;
 use std::io::Read;
 
 /// All that a reader has to give.
-pub fn read_all<R: Read + Drop>(heap: Global, reader: R) -> io::Result<Vec<u8>>
+pub fn read_all<R: Read + Drop>(heap: Global, mut reader: R) -> io::Result<Vec<u8>>
     ensures { IfOk result (λ bytes. IfSome (R.remaining reader) (λ xs. bytes.items ≡ xs)) }
 {
-    let mut reader = reader;
     let mut bytes = Vec::new(heap);
     let _ = reader.read_to_end(&mut bytes)?;
     Ok(bytes)

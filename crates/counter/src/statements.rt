@@ -9,7 +9,7 @@ pub const HEAD_BYTES: usize = 28;
 
 /// A statement: that the counter of this number, at this seat, went from an old value to a new one for a message.
 /// Any numbers may stand in it; what a counter certifies is another matter.
-#[derive(Clone, Copy, Debug)]
+#[derive(Clone, Copy, PartialEq, Eq, Debug)]
 pub struct Statement<'a> {
     /// `Kind::number` of the certificate.
     pub kind: u32,

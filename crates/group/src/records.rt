@@ -6,14 +6,6 @@ use service::{Failure, Service};
 use std::fmt::Display;
 use std::io;
 
-// Why requests fail, by ascending status.
-const FAILURES: [Failure; 4] = [
-    Failure::NotTaken,
-    Failure::NotAvailable,
-    Failure::NoSuchClient,
-    Failure::OldSequence,
-];
-
 /// Prints the written state, how many requests were applied and how many got each status.
 pub fn close<S: Service>(rt: &HostRuntime, service: &S, tally: &Tally) -> Result<(), Stop> {
     let mut state = vec![in rt.alloc(); 0; service.written_len()]?;
@@ -24,7 +16,7 @@ pub fn close<S: Service>(rt: &HostRuntime, service: &S, tally: &Tally) -> Result
     let applied = tally.applied();
     println!(rt; "requests applied: {applied}")?;
     show_count(rt, tally, 0, "done")?;
-    for failure in FAILURES {
+    for failure in Failure::ALL {
         show_count(rt, tally, failure.status(), failure)?;
     }
     Ok(())

@@ -1,6 +1,6 @@
 -- The laws of the glyph register.
 use Rattle.std.proofs.lemmas.Grind.{common_steps}
-use Rattle.std.proofs.Common.{◌≡◌, ℕ, ◌≤◌, Bool, true, false, cond, ltb, ◌⊎◌, List, length, is_some, Some, None, Option, refl, ap, ◌∙◌, ⊎_elim, arith}
+use Rattle.std.proofs.Common.{◌≡◌, ℕ, ◌≤◌, true, ltb, ◌⊎◌, List, length, is_some, Some, None, Option, refl, ap, ◌∙◌, ⊎_elim, arith}
 use Rattle.std.proofs.lemmas.Bool.{or_cases, ltb-true}
 use Rattle.terms.specs.declared.requests.Request.{Request}
 use Rattle.service.specs.Laws.{Valueless}
@@ -50,9 +50,6 @@ module _ (rows : List GlyphRow) (measure : Measure) (glyph value : ℕ) where
       (λ (fails : Fails). rw fails.after few)
       set_cases
 
-  quiet_set : ((set_reply rows glyph value).0 ≡ 0 → ⊥) → after_set rows measure glyph value ≡ rows
-  quiet_set failed = grind arith
-
   -- what a set that succeeded leaves at its glyph
   row_set : (set_reply rows glyph value).0 ≡ 0 → row_of (after_set rows measure glyph value) glyph ≡ Some (with_measure measure value (row_or_new rows glyph))
   row_set ok =
@@ -85,15 +82,6 @@ measure_other Bearing Advance value row apart = refl
 measure_other Bearing Bearing value row apart = absurd (apart refl)
 
 -- ---- replies without a value
-
-valueless_set : (late some : Bool) (value : ℕ) → Valueless (cond late (1, 0) (cond some (0, value) (2, 0)))
-valueless_set true some value = λ _. refl
-valueless_set false true value = λ failed. absurd (failed refl)
-valueless_set false false value = λ _. refl
-
-valueless_read : (measure : Measure) (row : Option GlyphRow) → Valueless (read_reply measure row)
-valueless_read measure None = λ _. refl
-valueless_read measure (Some row) = λ failed. absurd (failed refl)
 
 -- ---- by operation
 

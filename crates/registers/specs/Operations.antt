@@ -1,5 +1,5 @@
 -- What a request's code asks of the glyph register, and of the release line.
-use Rattle.std.specs.Prelude.{ℕ, cond, Some, None, Ok, Err, Option, Result, ◌==◌}
+use Rattle.std.specs.Prelude.{ℕ, cond, if◌then◌else◌, Some, None, Ok, Err, Option, Result, ◌==◌}
 use Rattle.std.specs.Option.{ok_or}
 use Rattle.service.specs.declared.failures.Failure.{Failure}
 use Rattle.service.specs.declared.failures.Failure.TheVariants.{NotTaken}
@@ -25,6 +25,6 @@ operation_or_failure code = ok_or (operation_of code) NotTaken
 -- code 1 raises the release line, 2 reads it
 abbrev pub action_or_failure : ℕ → Result Action Failure
 action_or_failure code =
-    cond (code == 1) (Ok Raise)
-    (cond (code == 2) (Ok ReadRelease)
-    (Err NotTaken))
+    if code == 1 then Ok Raise else
+    if code == 2 then Ok ReadRelease else
+    Err NotTaken

@@ -15,7 +15,7 @@ use xdr::{Row, Writer};
 const WRITTEN_BYTES: usize = 4;
 
 // What a request's code asks of the release line.
-#[derive(Clone, Copy)]
+#[derive(Clone, Copy, PartialEq, Eq, Debug)]
 enum Action {
     Raise,
     Read,

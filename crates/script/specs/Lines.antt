@@ -1,7 +1,9 @@
 -- What is left of a text, line by line.
-use Rattle.std.specs.Prelude.{◌≡◌, ℕ, ◌<◌, if◌then◌else◌, true, List, [], ◌∷◌, length, Option, is_some}
+use Rattle.std.specs.Prelude.{◌≡◌, ℕ, ◌<◌, if◌then◌else◌, true, List, [], ◌∷◌, length, drop, Option, is_some}
 use Rattle.std.specs.Iterator.{YieldsFirstBy}
 use Rattle.std.specs.Borrow.{Bor}
+use Rattle.std.specs.Option.{option_map}
+use Rattle.script.specs.Words.{first_of}
 use Rattle.script.specs.Cutting.{lines_of}
 use Rattle.script.specs.Tallies.{one_more}
 use Rattle.script.specs.declared.cursors.Lines.{Lines}
@@ -19,5 +21,7 @@ lines_left lines = numbered lines.number (lines_of lines.rest.now)
 abbrev pub NextLine : Lines → Option (ℕ × Bor (List ℕ)) → Lines → Type 0
 NextLine s r t =
     YieldsFirstBy (λ p. (p.0, p.1.now)) lines_left s r t
+    × (option_map (λ p. p.1.now) r ≡ first_of (lines_of s.rest.now))
+    × (lines_of t.rest.now ≡ drop 1 (lines_of s.rest.now))
     × (t.number ≡ (if is_some r then one_more s.number else s.number))
     × (is_some r ≡ true → length t.rest.now < length s.rest.now)

@@ -28,6 +28,13 @@ impl<'a> Lines<'a> {
             number: 0,
         }
     }
+
+    /// The number of the line that was read last, from 1; 0 before the first.
+    pub fn number(&self) -> u64
+        ensures { result ≡ self.now.number }
+    {
+        self.number
+    }
 }
 
 impl<'a> Iterator for Lines<'a> {

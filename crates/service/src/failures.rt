@@ -22,6 +22,14 @@ pub enum Failure {
 }
 
 impl Failure {
+    /// All failures, by ascending status.
+    pub const ALL: [Failure; 4] = [
+        Failure::NotTaken,
+        Failure::NotAvailable,
+        Failure::NoSuchClient,
+        Failure::OldSequence,
+    ];
+
     /// The status of a reply that says so.
     pub fn status(self) -> u32
         ensures { result ≡ failure_status self }

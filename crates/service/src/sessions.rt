@@ -66,8 +66,10 @@ impl<S: Service> Service for Sessions<S> {
         let Some(kept) = self.kept.get(client).copied() else {
             return Failure::NoSuchClient.into();
         };
+        if request.sequence == 0 {
+            return Failure::OldSequence.into();
+        }
         match request.sequence.cmp(&kept.sequence) {
-            _ if request.sequence == 0 => Failure::OldSequence.into(),
             Ordering::Less => Failure::OldSequence.into(),
             Ordering::Equal => kept.reply,
             Ordering::Greater => {

@@ -16,12 +16,11 @@ pub trait Stream: Sized {
         ensures { (rest : List ℕ) → after self.new rest ≡ after self.old (bytes.now ++ rest) };
 
     /// The same with the bytes taken in.
-    final fn with(self, bytes: &[u8]) -> Self
+    final fn with(mut self, bytes: &[u8]) -> Self
         ensures { (rest : List ℕ) → after result rest ≡ after self (bytes.now ++ rest) }
     {
-        let mut stream = self;
-        stream.update(bytes);
-        stream
+        self.update(bytes);
+        self
     }
 
     /// The result for the bytes that have come.

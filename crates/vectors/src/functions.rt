@@ -84,7 +84,7 @@ impl Function {
 }
 
 // Published bytes, with which a result begins. There must be some.
-#[derive(Clone, Copy)]
+#[derive(Clone, Copy, PartialEq, Eq, Debug)]
 struct Published<'a>(&'a [u8]);
 
 impl Published<'_> {

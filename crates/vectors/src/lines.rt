@@ -6,7 +6,7 @@ use script::next_word;
 use std::alloc::Global;
 
 // A line that is read word by word.
-#[derive(Clone, Copy)]
+#[derive(Clone, Copy, PartialEq, Eq, Debug)]
 struct Line<'a> {
     number: u64,
     rest: &'a [u8],
@@ -50,8 +50,8 @@ pub fn run_line(heap: Global, number: u64, line: &[u8]) -> Result<Option<Functio
     if line.word().is_some() {
         return Err(line.stop(Fault::Unread));
     }
-    match function.compare(&key, &input, &published) {
-        Ok(()) => Ok(Some(function)),
-        Err(fault) => Err(line.stop(fault)),
-    }
+    function
+        .compare(&key, &input, &published)
+        .map_err(|fault| line.stop(fault))?;
+    Ok(Some(function))
 }

@@ -5,8 +5,7 @@ use streams::Stream;
 const PIECE: usize = 13;
 
 /// The result for a whole message in pieces, of which the last may be shorter.
-pub fn in_pieces<S: Stream>(stream: S, message: &[u8]) -> S::Output {
-    let mut stream = stream;
+pub fn in_pieces<S: Stream>(mut stream: S, message: &[u8]) -> S::Output {
     for piece in message.chunks(PIECE) {
         stream.update(piece);
     }

@@ -16,9 +16,5 @@ pub fn read_bytes(heap: Global, word: &[u8]) -> Result<Option<Vec<u8>>, AllocErr
     let Some(once) = read_hex(heap, &word[star + 1..])? else {
         return Ok(None);
     };
-    let mut bytes = Vec::new(heap);
-    for _ in 0..count {
-        bytes.extend_from_slice(once.as_slice())?;
-    }
-    Ok(Some(bytes))
+    Ok(Some(once.as_slice().repeat(heap, count as usize)?))
 }

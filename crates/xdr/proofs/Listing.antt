@@ -50,10 +50,6 @@ module _ {X : Type 0} where
   abbrev onward : (List ℕ → Option (List X × List ℕ)) → Option (List X × List ℕ) → Option (List X × List ℕ)
   onward next o = and_then o (λ xs rest. and_then (next rest) (λ ys behind. Some (xs ++ ys, behind)))
 
-  onward_none : (o : Option (List X × List ℕ)) → and_then o (λ xs rest. Some (xs, rest)) ≡ o
-  onward_none None = refl
-  onward_none (Some p) = refl
-
   ahead_joined : (x : X) (xs : List X) (o : Option (List X × List ℕ)) → ahead x (and_then o (λ ys rest. Some (xs ++ ys, rest))) ≡ and_then o (λ ys rest. Some (x ∷ (xs ++ ys), rest))
   ahead_joined x xs None = refl
   ahead_joined x xs (Some p) = refl
