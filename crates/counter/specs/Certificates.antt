@@ -1,5 +1,5 @@
 -- What reading a value and a certificate call answer, and the values behind them.
-use Rattle.std.specs.Prelude.{ℕ, Bool, true, false, cond, not, List, replicate, Ok, Err, Result, nat_le, nat_lt, slice_index, slice_set}
+use Rattle.std.specs.Prelude.{ℕ, Bool, true, false, if◌then◌else◌, not, List, replicate, Ok, Err, Result, nat_le, nat_lt, slice_index, slice_set}
 use Rattle.terms.specs.declared.refusals.Refusal.{Refusal}
 use Rattle.terms.specs.declared.refusals.Refusal.TheVariants.{NoSuchCounter, ValueNotAllowed}
 use Rattle.counter.specs.Kinds.{kind_number}
@@ -32,7 +32,7 @@ refused_if false refusal values next = next
 
 -- reading a value
 abbrev pub value_read : List ℕ → ℕ → Result ℕ Refusal
-value_read values number = cond (nat_lt number counters) (Ok (slice_index values number)) (Err NoSuchCounter)
+value_read values number = if nat_lt number counters then Ok (slice_index values number) else Err NoSuchCounter
 
 -- the statement that a certificate of this seat is for
 abbrev pub certificate_for : ℕ → List ℕ → Kind → ℕ → ℕ → List ℕ → Stated

@@ -1,5 +1,5 @@
 -- The glyph register: what a request answers and leaves.
-use Rattle.std.specs.Prelude.{ℕ, Bool, true, false, cond, Ok, Err, Result, ◌&&◌, ◌||◌, List, length, is_some, Some, None, Option, nat_le, nat_lt}
+use Rattle.std.specs.Prelude.{ℕ, Bool, true, false, if◌then◌else◌, Ok, Err, Result, ◌&&◌, ◌||◌, List, length, is_some, Some, None, Option, nat_le, nat_lt}
 use Rattle.std.specs.Option.{unwrap_or}
 use Rattle.terms.specs.declared.requests.Request.{Request}
 use Rattle.xdr.specs.Layout.{counted}
@@ -35,7 +35,7 @@ row_or_new rows glyph = unwrap_or (row_of rows glyph) (new_row glyph)
 
 -- a value above the largest: status 1; no place for the glyph: status 2; else the value now held
 abbrev pub set_reply : List GlyphRow → ℕ → ℕ → ℕ × ℕ
-set_reply rows glyph value = cond (nat_lt largest_measure value) (1, 0) (cond (has_place rows glyph) (0, value) (2, 0))
+set_reply rows glyph value = if nat_lt largest_measure value then (1, 0) else (if has_place rows glyph then (0, value) else (2, 0))
 
 -- an unknown glyph: status 2
 abbrev pub read_reply : Measure → Option GlyphRow → ℕ × ℕ
@@ -53,7 +53,7 @@ glyph_reply rows r = operation_reply rows r (operation_of r.code)
 
 -- a set that succeeds puts the number into the glyph's row; a new glyph's other number is 0
 abbrev pub after_set : List GlyphRow → Measure → ℕ → ℕ → List GlyphRow
-after_set rows measure glyph value = cond (nat_le value largest_measure && has_place rows glyph) (placed rows (with_measure measure value (row_or_new rows glyph))) rows
+after_set rows measure glyph value = if nat_le value largest_measure && has_place rows glyph then placed rows (with_measure measure value (row_or_new rows glyph)) else rows
 
 -- nothing else changes anything
 abbrev pub after_operation : List GlyphRow → Request → Option Operation → List GlyphRow

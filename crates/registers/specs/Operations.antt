@@ -1,5 +1,5 @@
 -- What a request's code asks of the glyph register, and of the release line.
-use Rattle.std.specs.Prelude.{ℕ, cond, if◌then◌else◌, Some, None, Ok, Err, Option, Result, ◌==◌}
+use Rattle.std.specs.Prelude.{ℕ, if◌then◌else◌, Some, None, Ok, Err, Option, Result, ◌==◌}
 use Rattle.std.specs.Option.{ok_or}
 use Rattle.service.specs.declared.failures.Failure.{Failure}
 use Rattle.service.specs.declared.failures.Failure.TheVariants.{NotTaken}
@@ -12,11 +12,11 @@ use Rattle.registers.specs.declared.release.Action.TheVariants.{Raise, Read as R
 -- code 1 sets the advance, 2 the left bearing, 3 reads the advance, 4 the bearing
 abbrev pub operation_of : ℕ → Option Operation
 operation_of code =
-    cond (code == 1) (Some (Set Advance))
-    (cond (code == 2) (Some (Set Bearing))
-    (cond (code == 3) (Some (Read Advance))
-    (cond (code == 4) (Some (Read Bearing))
-    None)))
+    if code == 1 then Some (Set Advance) else
+    if code == 2 then Some (Set Bearing) else
+    if code == 3 then Some (Read Advance) else
+    if code == 4 then Some (Read Bearing) else
+    None
 
 -- another code is not taken
 abbrev pub operation_or_failure : ℕ → Result Operation Failure

@@ -1,5 +1,5 @@
 -- The glyph register's rows: looking one up, setting one in its place, and their order.
-use Rattle.std.specs.Prelude.{◌≡◌, ℕ, ◌<◌, ◌≤◌, Bool, true, cond, ◌&&◌, List, [], ◌∷◌, length, Some, None, Option, ◌==◌, nat_lt, slice_index_or, slice_set}
+use Rattle.std.specs.Prelude.{◌≡◌, ℕ, ◌<◌, ◌≤◌, Bool, true, if◌then◌else◌, ◌&&◌, List, [], ◌∷◌, length, Some, None, Option, ◌==◌, nat_lt, slice_index_or, slice_set}
 use Rattle.std.specs.List.{flat_map, insert}
 use Rattle.xdr.specs.Layout.{int}
 use Rattle.registers.specs.declared.glyph_rows.GlyphRow.{GlyphRow}
@@ -27,15 +27,15 @@ row_bytes row = flat_map int (row.glyph ∷ row.advance ∷ row.bearing ∷ [])
 -- the row of a glyph, where there is one
 abbrev pub row_of : List GlyphRow → ℕ → Option GlyphRow
 row_of [] glyph = None
-row_of (row ∷ rows) glyph = cond (row.glyph == glyph) (Some row) (row_of rows glyph)
+row_of (row ∷ rows) glyph = if row.glyph == glyph then Some row else row_of rows glyph
 
 -- the rows with one more in its place, or in the place of the row that its glyph had
 abbrev pub placed : List GlyphRow → GlyphRow → List GlyphRow
 placed [] new = new ∷ []
 placed (row ∷ rows) new =
-    cond (nat_lt row.glyph new.glyph) (row ∷ placed rows new)
-    (cond (row.glyph == new.glyph) (new ∷ rows)
-    (new ∷ row ∷ rows))
+    if nat_lt row.glyph new.glyph then row ∷ placed rows new else
+    if row.glyph == new.glyph then new ∷ rows else
+    new ∷ row ∷ rows
 
 -- every row's glyph is above this one
 abbrev pub all_above : ℕ → List GlyphRow → Bool

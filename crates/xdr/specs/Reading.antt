@@ -1,5 +1,5 @@
 -- RFC 4506 read back: the value that begins a list of bytes with the bytes behind it, or None where there is none.
-use Rattle.std.specs.Prelude.{ℕ, zero, suc, ◌+◌, ◌*◌, cond, List, [], ◌∷◌, length, take, drop, Some, None, Option, nat_le}
+use Rattle.std.specs.Prelude.{ℕ, zero, suc, ◌+◌, ◌*◌, if◌then◌else◌, List, [], ◌∷◌, length, take, drop, Some, None, Option, nat_le}
 use Rattle.std.specs.Borrow.{Bor}
 
 -- a value that was read, and what the slice behind it holds
@@ -29,11 +29,11 @@ hyper_from bytes = and_then (int_from bytes) (λ high rest. and_then (int_from r
 
 -- fixed opaque of n bytes
 abbrev pub opaque_from : ℕ → List ℕ → Option (List ℕ × List ℕ)
-opaque_from n bytes = cond (nat_le n (length bytes)) (Some (take n bytes, drop n bytes)) None
+opaque_from n bytes = if nat_le n (length bytes) then Some (take n bytes, drop n bytes) else None
 
 -- the count of a list that has at most so many elements
 abbrev pub count_from : ℕ → List ℕ → Option (ℕ × List ℕ)
-count_from most bytes = and_then (int_from bytes) (λ count rest. cond (nat_le count most) (Some (count, rest)) None)
+count_from most bytes = and_then (int_from bytes) (λ count rest. if nat_le count most then Some (count, rest) else None)
 
 -- n elements one behind the other
 unfoldable pub times_from : {X : Type 0} → (List ℕ → Option (X × List ℕ)) → ℕ → List ℕ → Option (List X × List ℕ)
