@@ -16,4 +16,5 @@ pub use bytes::double;
 pub use ciphers::Aes128;
 pub use macs::CmacKey;
 pub use states::Cmac;
+pub use streams::Stream;
 pub use subkeys::double_block;

@@ -1,6 +1,5 @@
 // What the tag of a message in progress is made from: X, and the last bytes so far, of which a full block is held back
-// until more come, since the last block is treated apart. The struct stands apart from its methods, since their contracts
-// cite definitions that name it, and a file may not hold both those and a ghost field.
+// until more come, since the last block is treated apart. Its methods stand in macs.rt.
 ghost use Rattle.std.specs.Prelude.{◌≤◌};
 
 use super::blocks::Block;

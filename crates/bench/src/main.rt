@@ -1,5 +1,5 @@
-// Times the tag functions. `bench WORK COUNT` prints the nanoseconds that the work took and the front of its last result;
-// without arguments each work is done a few times, and only the results are printed.
+// Times the tag functions. `bench WORK COUNT` prints the nanoseconds that the work took and the front of its last
+// result; without arguments each work is done a few times, and only the results are printed.
 #![tactic(auto)]
 
 mod stops;

@@ -1,9 +1,9 @@
-// Why the program ended early.
+// The ways in which a timing ends early, each with its sentence.
 use std::alloc::AllocError;
 use std::io;
 use thiserror::Error;
 
-/// Why the program ended early.
+/// The ways in which a timing ends early, each with its sentence.
 #[derive(Debug, Drop, Error)]
 pub enum Stop {
     /// The arguments are neither none nor a work and a count.

@@ -1,5 +1,5 @@
-// What a trusted counter means, for every crate that uses one: kinds of certificates, statements, checkers, counters and
-// seats.
+// What a trusted counter means, for every crate that uses one: kinds of certificates, statements, checkers, counters
+// and seats.
 #![tactic(auto)]
 
 mod contract;

@@ -27,8 +27,8 @@ impl Seat {
         Ok(Seat { group, number })
     }
 
-    /// The group, and the seat's number in it. The seat is used up. Every counter begins here, so here stands what every
-    /// counter owes.
+    /// The group, and the seat's number in it. The seat is used up. Every counter begins here, so here stands what
+    /// every counter owes.
     pub fn taken(self) -> (GroupSize, u32)
         ensures group { result.0 ≡ self.group }
         ensures number { result.1 ≡ self.number }

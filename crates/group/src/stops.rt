@@ -1,4 +1,4 @@
-// Why a run ended early.
+// The ways in which a run ends early, each with its sentence.
 use script::Fault;
 use std::alloc::AllocError;
 use std::io;

@@ -8,4 +8,5 @@ mod hashing;
 mod tags;
 
 pub use hashing::{Sha256, digest};
+pub use streams::Stream;
 pub use tags::{Hmac, HmacKey};

@@ -1,4 +1,5 @@
-// Runs the tag functions on published inputs, as lines on standard input give them, and holds what they give to what was published.
+// Runs the tag functions on published inputs, as lines on standard input give them, and holds what they give to what
+// was published.
 #![tactic(auto)]
 
 mod functions;

@@ -1,9 +1,9 @@
-// Why the program ended early.
+// The ways in which the program ends early, and what may be wrong with a line.
 use std::alloc::AllocError;
 use std::io;
 use thiserror::Error;
 
-/// Why the program ended early.
+/// The ways in which the program ends early, and what may be wrong with a line.
 #[derive(Debug, Drop, Error)]
 pub enum Stop {
     /// A line, by its number, is at fault.

@@ -14,7 +14,8 @@ pub fn read_opaque<const N: usize>(bytes: &[u8]) -> Option<(&[u8; N], &[u8])>
     bytes.split_first_chunk::<N>()
 }
 
-/// Reads the count of a list, or answers None where no int is left or the count is above the most that the list may have.
+/// Reads the count of a list, or answers None where no int is left or the count is above the most that the list may
+/// have.
 pub fn read_count(bytes: &[u8], most: u32) -> Option<(u32, &[u8])>
     ensures value { option_map value_and_rest result ≡ count_from most bytes.now }
     ensures exact { CountsExact }
@@ -34,7 +35,8 @@ pub fn read_rows(bytes: &[u8], width: usize, most: u32) -> Option<(&[u8], &[u8])
     split_rows(rest, width, count)
 }
 
-// Splits so many elements of one width off the front. A length that no slice can have is one that the bytes are short of.
+// Splits so many elements of one width off the front. A length that no slice can have is one that the bytes are short
+// of.
 fn split_rows(bytes: &[u8], width: usize, count: u32) -> Option<(&[u8], &[u8])>
     ensures { option_map part_and_rest result ≡ opaque_from (width * count) bytes.now }
 {
