@@ -1,6 +1,6 @@
 -- The words of a line, one after the other.
-use Rattle.std.proofs.Common.{◌≡◌, ℕ, ◌<◌, true, false, cond, filter, nat_lt, List, [], ◌∷◌, length, refl, ap, ◌∙◌, ⊎_elim, arith}
-use Rattle.std.proofs.lemmas.Bool.{cases_Bool, both_ways}
+use Rattle.std.proofs.Common.{Bool, ◌≡◌, ℕ, ◌<◌, true, false, cond, filter, nat_lt, List, [], ◌∷◌, length, refl, ap, ◌∙◌, ⊎_elim, arith}
+use Rattle.std.proofs.lemmas.Bool.{cases_Bool}
 use Rattle.std.proofs.lemmas.Bool.Decides.{nat_tests}
 use Rattle.std.proofs.lemmas.List.Elements.{All-from_recursion, All-nil, All-cons, All-append, All-weaker}
 use Rattle.std.proofs.lemmas.List.Splits.{slice_split_none, slice_split_at}
@@ -89,19 +89,15 @@ one_word line some =
     ∙ ap (λ (ws : List (List ℕ)). before_first ends_word rest ∷ ws) (later_words rest)
 
 -- no byte of a word is a blank or a comment's beginning
+-- what ends no word is in none
+within_word : (test : ℕ → Bool) → ((b : ℕ) → ends_word b ≡ false → test b ≡ false) → (w : List ℕ) → IsWord w → All (λ b. test b ≡ false) w
+within_word test apart w word = All-weaker (λ b. ends_word b ≡ false) _ apart w (All-from_recursion _ w word.1)
+
 solid_word : (w : List ℕ) → IsWord w → All (λ b. is_blank b ≡ false) w
-solid_word w word = All-weaker (λ b. ends_word b ≡ false) _ (λ b on. elim (kind b) [
-  | part _ solid _ ↦ solid
-  | comment off _ _ ↦ absurd (both_ways (ends_word b) on off)
-  | gap off _ _ ↦ absurd (both_ways (ends_word b) on off)
-]) w (All-from_recursion _ w word.1)
+solid_word = within_word is_blank (λ b on. grind (arith, nat_tests))
 
 plain_word : (w : List ℕ) → IsWord w → All (λ b. is_hash b ≡ false) w
-plain_word w word = All-weaker (λ b. ends_word b ≡ false) _ (λ b on. elim (kind b) [
-  | part _ _ plain ↦ plain
-  | comment off _ _ ↦ absurd (both_ways (ends_word b) on off)
-  | gap off _ _ ↦ absurd (both_ways (ends_word b) on off)
-]) w (All-from_recursion _ w word.1)
+plain_word = within_word is_hash (λ b on. grind (arith, nat_tests))
 
 -- words with one blank between them: none is a comment, and they are the pieces
 module _ (blank : ℕ) (is : is_blank blank ≡ true) where
