@@ -7,6 +7,6 @@ mod tables;
 mod writer;
 
 pub use ints::Number;
-pub use reading::{lists_exact, read_count, read_opaque, read_rows};
+pub use reading::{lists_exact, numbers_exact, read_count, read_opaque, read_rows};
 pub use tables::Row;
 pub use writer::Writer;

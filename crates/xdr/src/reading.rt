@@ -1,7 +1,7 @@
 // Reading from the front of lent bytes: each call answers the value and the bytes behind it, and copies nothing.
 ghost use Rattle.std.specs.Prelude.{◌≡◌, ◌*◌};
 ghost use Rattle.std.specs.Option.{option_map};
-ghost use Rattle.xdr.specs.Laws.{OpaquesExact, CountsExact, ListsExact, RowsExact, RowsJoin};
+ghost use Rattle.xdr.specs.Laws.{IntsExact, HypersExact, OpaquesExact, CountsExact, ListsExact, RowsExact, RowsJoin};
 ghost use Rattle.xdr.specs.Reading.{value_and_rest, part_and_rest, opaque_from, count_from, rows_from};
 
 use super::ints::Number;
@@ -43,6 +43,14 @@ fn split_rows(bytes: &[u8], width: usize, count: u32) -> Option<(&[u8], &[u8])>
     let length = width.checked_mul(count as usize)?;
     bytes.split_at_checked(length)
 }
+
+/// Unsigned ints and unsigned hypers are exact: the law that `Number::read` states of any number, by the name of each.
+/// There is nothing to run.
+#[tactic(auto, using(crate::proofs::Numbers::ints_exact, crate::proofs::Numbers::hypers_exact))]
+pub fn numbers_exact()
+    ensures ints { IntsExact }
+    ensures hypers { HypersExact }
+{}
 
 /// Counted lists are exact whatever their elements are. There is nothing to run: the contract holds the law for every
 /// type of element.
