@@ -6,11 +6,11 @@ mod stops;
 mod works;
 
 use console::told;
-use script::{Hex, read_number};
 use std::env;
 use std::process::ExitCode;
 use std::time::Instant;
 use stops::Stop;
+use texts::{Hex, read_number};
 use works::{WORKS, Work};
 
 fn main(rt: HostRuntime) -> ExitCode {

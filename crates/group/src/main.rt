@@ -1,9 +1,11 @@
 // Plays a run script, from the file that is named or from standard input, and prints what each of its lines did.
 #![tactic(auto)]
 
+mod counter_runs;
 mod inputs;
 mod plays;
 mod records;
+mod register_runs;
 mod stops;
 
 use console::told;

@@ -1,10 +1,24 @@
-// The closing record: the written state for a machine, and counts and a table for a person.
+// How a refusal is printed, and the closing record: the written state for a machine, counts and tables for a person.
 use super::stops::Stop;
+use counter::{COUNTERS, Counter};
 use registers::GlyphRow;
-use script::{Hex, Tally};
+use script::{Tally, YesNo};
 use service::{Failure, Service};
-use std::fmt::Display;
+use std::fmt::{self, Display};
 use std::io;
+use terms::Refusal;
+use texts::Hex;
+
+/// Shows a refusal by its number, and its sentence behind it.
+#[derive(Clone, Copy, PartialEq, Eq, Debug)]
+pub struct Refused(pub Refusal);
+
+impl fmt::Display for Refused {
+    fn fmt<W: fmt::Write>(&self, f: &mut fmt::Formatter<W>) -> fmt::Result {
+        let refusal = self.0;
+        write!(f, "refused {} ({refusal})", refusal.number())
+    }
+}
 
 /// Prints the written state, how many requests were applied and how many got each status.
 pub fn close<S: Service>(rt: &HostRuntime, service: &S, tally: &Tally) -> Result<(), Stop> {
@@ -45,6 +59,29 @@ pub fn show_rows(rt: &HostRuntime, rows: &[GlyphRow]) -> Result<(), Stop> {
         bearing,
     } in rows {
         println!(rt; "  {glyph:>10}  {advance:>7}  {bearing:>7}")?;
+    }
+    Ok(())
+}
+
+/// Prints how many certificates were given and how many refused, how many tags were right and how many wrong, and a
+/// table of the counter's values.
+pub fn close_counter<C: Counter>(
+    rt: &HostRuntime,
+    counter: &C,
+    certificates: YesNo,
+    tags: YesNo,
+) -> Result<(), Stop> {
+    println!(rt;
+        "certificates given: {}, refused: {}",
+        certificates.yes(),
+        certificates.no()
+    )?;
+    println!(rt; "tags right: {}, wrong: {}", tags.yes(), tags.no())?;
+    println!(rt; "  {:>7}  {:>20}", "counter", "value")?;
+    for number in 0..COUNTERS as u32 {
+        if let Ok(value) = counter.value(number) {
+            println!(rt; "  {number:>7}  {value:>20}")?;
+        }
     }
     Ok(())
 }

@@ -2,6 +2,7 @@
 use script::Fault;
 use std::alloc::AllocError;
 use std::io;
+use terms::Refusal;
 use thiserror::Error;
 
 /// Why a run ended early. What it printed before stays printed.
@@ -15,6 +16,12 @@ pub enum Stop {
     /// A line, by its number, means nothing.
     #[error("line {0}: {1}")]
     Line(u64, Fault),
+    /// What the header on a line, by its number, asks for cannot be made.
+    #[error("line {0}: {1}")]
+    Refused(u64, Refusal),
+    /// An entry on a line names the bytes that another line wrote, and there are none.
+    #[error("line {0}: line {1} wrote no bytes")]
+    NothingWritten(u64, u32),
     #[error("cannot print the record: {0}")]
     Unprinted(#[from] io::Error),
     #[error("out of memory")]

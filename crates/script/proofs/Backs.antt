@@ -1,42 +1,51 @@
 -- What is written reads as itself.
-use Rattle.std.proofs.Common.{◌≡◌, ℕ, ◌<◌, true, false, List, [], ◌∷◌, map, codes, Some, Ok, decimal, refl, ap, ◌∙◌, arith, lit<}
-use Rattle.std.proofs.lemmas.Bool.{and_parts}
-use Rattle.std.proofs.lemmas.Bool.Decides.{nat_tests}
-use Rattle.std.specs.Char.{is_ascii_digit}
+use Rattle.std.proofs.Common.{◌≡◌, ℕ, List, [], ◌∷◌, map, codes, Some, Ok, decimal, refl, ap, ◌∙◌, arith, lit<}
 use Rattle.std.specs.List.{AllByRecursion}
-use Rattle.std.specs.Str.{all_ascii_digits}
-use Rattle.script.specs.Cutting.{ends_word, words_of, IsWord}
+use Rattle.texts.specs.Cutting.{words_of, IsWord}
 use Rattle.script.specs.Entries.{entry_of, numbers_of, EntriesReadBack}
-use Rattle.script.specs.Headers.{service_of, HeadersReadBack}
-use Rattle.script.specs.Numerals.{number_bound, number_of}
+use Rattle.script.specs.Headers.{header_of, header_words, service_of, counter_of, HeadersReadBack}
+use Rattle.script.specs.Keys.{key_at, key_words, KeyFits}
+use Rattle.texts.specs.Numerals.{number_of}
 use Rattle.script.specs.Words.{spelt}
+use Rattle.script.proofs.Written.{decimal_is_word, numbers_are_words, hex_is_word}
 use Rattle.script.specs.declared.entries.Entry.TheVariants.{Apply}
-use Rattle.script.specs.declared.headers.Header.TheVariants.{Register}
+use Rattle.script.specs.declared.headers.Header.TheVariants.{Register, Counter}
+use Rattle.script.specs.declared.keys.Key.{Key}
+use Rattle.script.specs.declared.keys.Key.TheVariants.{Hmac, Cmac}
 use Rattle.script.specs.declared.headers.RegisterKind.TheVariants.{Glyphs, Release}
 use Rattle.script.specs.declared.headers.ServiceKind.TheVariants.{Alone, Sessions}
-use Rattle.script.proofs.Digits.{decimals_read, decimal_digits, decimal_not_empty}
-use Rattle.script.proofs.Pieces.{words_cut_back}
+use Rattle.texts.proofs.Digits.{decimals_read}
+use Rattle.texts.proofs.Pairs.{hexes_read}
+use Rattle.texts.proofs.Pieces.{words_cut_back}
+
+-- a key that is written
+key_is_words : (key : Key) → KeyFits key → AllByRecursion IsWord (key_words key)
+key_is_words (Hmac key) fits = ((lit< tt, (refl, (refl, (refl, (refl, tt))))), (hex_is_word key (omega (arith, fits.0)) fits.1, tt))
+key_is_words (Cmac key) fits = ((lit< tt, (refl, (refl, (refl, (refl, tt))))), (hex_is_word key (omega (arith, fits.0)) fits.1, tt))
+
+key_reads : (key : Key) (place : ℕ) → KeyFits key → key_at (record { place = place; words = key_words key }) ≡ Ok key
+unfolding key_at spelt
+key_reads (Hmac key) place fits = simp (hexes_read key fits.1, fits.0)
+key_reads (Cmac key) place fits = simp (hexes_read key fits.1, fits.0)
+
+-- two words that are numbers, and the words of a key
+counter_read : (u v : List ℕ) (key : Key) {seats seat : ℕ} → KeyFits key → number_of u ≡ Some seats → number_of v ≡ Some seat → header_of (codes "counter" ∷ u ∷ v ∷ key_words key) ≡ Ok (Some (Counter (record { seats = seats; seat = seat; key = key })))
+unfolding spelt counter_of
+counter_read u v (Hmac key) fits a b = simp (a, b, key_reads (Hmac key) 4 fits)
+counter_read u v (Cmac key) fits a b = simp (a, b, key_reads (Cmac key) 4 fits)
+
+counter_is_word : IsWord (codes "counter")
+counter_is_word = (lit< tt, (refl, (refl, (refl, (refl, (refl, (refl, (refl, tt))))))))
 
 pub headers_read_back : HeadersReadBack
 unfolding words_of spelt service_of
-headers_read_back (Register (Alone Glyphs)) = refl
-headers_read_back (Register (Alone Release)) = refl
-headers_read_back (Register (Sessions Glyphs)) = refl
-headers_read_back (Register (Sessions Release)) = refl
-
-digit_in_word : (d : ℕ) → is_ascii_digit d ≡ true → ends_word d ≡ false
-digit_in_word d digit = grind (arith, nat_tests)
-
-digits_in_word : (ds : List ℕ) → all_ascii_digits ds ≡ true → AllByRecursion (λ b. ends_word b ≡ false) ds
-digits_in_word [] digits = tt
-digits_in_word (d ∷ ds) digits =
-    let both = and_parts (is_ascii_digit d) (all_ascii_digits ds) digits in
-    (digit_in_word d both.0, digits_in_word ds both.1)
-
-decimals_are_words : (ns : List ℕ) → AllByRecursion (λ n. n < number_bound) ns → AllByRecursion IsWord (map decimal ns)
-decimals_are_words [] small = tt
-decimals_are_words (n ∷ ns) small =
-    ((decimal_not_empty n small.0, digits_in_word (decimal n) (decimal_digits n small.0)), decimals_are_words ns small.1)
+headers_read_back (Register (Alone Glyphs)) fits = refl
+headers_read_back (Register (Alone Release)) fits = refl
+headers_read_back (Register (Sessions Glyphs)) fits = refl
+headers_read_back (Register (Sessions Release)) fits = refl
+headers_read_back (Counter counter) fits =
+    ap header_of (words_cut_back 32 (header_words (Counter counter)) refl (counter_is_word, (decimal_is_word counter.seats (omega (arith, fits.0)), (decimal_is_word counter.seat (omega (arith, fits.1)), key_is_words counter.key fits.2))))
+    ∙ counter_read _ _ counter.key fits.2 (decimals_read counter.seats fits.0) (decimals_read counter.seat fits.1)
 
 -- five words that are numbers
 request_read : (u v w x y : List ℕ) {client sequence code key value : ℕ} → number_of u ≡ Some client → number_of v ≡ Some sequence → number_of w ≡ Some code → number_of x ≡ Some key → number_of y ≡ Some value → entry_of (codes "apply" ∷ u ∷ v ∷ w ∷ x ∷ y ∷ []) ≡ Ok (Some (Apply (record { client = client; sequence = sequence; code = code; key = key; value = value })))
@@ -49,5 +58,5 @@ apply_is_word = (lit< tt, (refl, (refl, (refl, (refl, (refl, tt))))))
 pub entries_read_back : EntriesReadBack
 entries_read_back (Apply q) small =
     let words = map decimal (numbers_of (Apply q)) in
-    ap entry_of (words_cut_back 32 (codes "apply" ∷ words) refl (apply_is_word, decimals_are_words (numbers_of (Apply q)) small))
+    ap entry_of (words_cut_back 32 (codes "apply" ∷ words) refl (apply_is_word, numbers_are_words (numbers_of (Apply q)) small))
     ∙ request_read _ _ _ _ _ (decimals_read q.client small.0) (decimals_read q.sequence small.1.0) (decimals_read q.code small.1.1.0) (decimals_read q.key small.1.1.1.0) (decimals_read q.value small.1.1.1.1.0)

@@ -2,8 +2,8 @@
 use Rattle.std.specs.Prelude.{◌≡◌, ℕ, ◌<◌, if◌then◌else◌, codes, List, [], ◌∷◌, map, Some, None, Ok, Err, decimal, Option, Result}
 use Rattle.std.specs.List.{AllByRecursion, join_with_byte}
 use Rattle.terms.specs.declared.requests.Request.{Request}
-use Rattle.script.specs.Cutting.{words_of}
-use Rattle.script.specs.Numerals.{number_bound}
+use Rattle.texts.specs.Cutting.{words_of}
+use Rattle.texts.specs.Numerals.{number_bound}
 use Rattle.script.specs.Words.{Left, fault_at, and_then, with_number, with_end, spelt}
 use Rattle.script.specs.declared.entries.Entry.{Entry}
 use Rattle.script.specs.declared.entries.Entry.TheVariants.{Apply}

@@ -1,9 +1,8 @@
 -- The definitions that the contracts cite.
-pub mod Cutting
+pub mod Bytes
+pub mod CounterEntries
 pub mod Entries
 pub mod Headers
-pub mod Hexes
-pub mod Lines
-pub mod Numerals
+pub mod Keys
 pub mod Tallies
 pub mod Words

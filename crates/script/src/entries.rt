@@ -1,10 +1,10 @@
-// The entries: what a script does, one after the other.
+// The entries of a register: what a script asks of it, one after the other.
 ghost use Rattle.std.specs.Prelude.{◌≡◌};
-ghost use Rattle.script.specs.Cutting.{words_of};
+ghost use Rattle.texts.specs.Cutting.{words_of};
 ghost use Rattle.script.specs.Entries.{entry_of, request_of, EntriesReadBack};
 
-use super::cursors::Words;
 use super::faults::{Expected, Fault};
+use super::words::Words;
 use terms::Request;
 
 /// One step of a run.

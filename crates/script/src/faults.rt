@@ -4,17 +4,35 @@ use thiserror::Error;
 /// What a word should be. It is shown as the end of a sentence about the word.
 #[derive(Clone, Copy, PartialEq, Eq, Debug, Error)]
 pub enum Expected {
-    #[error("should be \"register SERVICE\"")]
+    #[error("should be \"register SERVICE\" or \"counter N SEAT KIND KEY\"")]
     Header,
     #[error("should be a service: glyphs, release, sessions glyphs or sessions release")]
     Service,
     /// A service that can stand below sessions.
     #[error("should be a service below sessions: glyphs or release")]
     PlainService,
+    /// A kind of counters.
+    #[error("should be a kind of counters: hmac or cmac")]
+    CounterKind,
+    #[error("should be a key of 64 hexadecimal digits")]
+    HmacKey,
+    #[error("should be a key of 32 hexadecimal digits")]
+    CmacKey,
+    /// An entry for a register.
     #[error("should be \"apply CLIENT SEQUENCE CODE KEY VALUE\"")]
     Entry,
+    /// An entry for a counter.
+    #[error("should be \"certify KIND NUMBER VALUE BYTES\", \"value NUMBER\" or \"check KIND SEAT NUMBER NEW OLD BYTES TAG\"")]
+    CounterEntry,
+    /// A kind of certificates.
+    #[error("should be a kind of certificates: continuing or independent")]
+    Kind,
     #[error("should be a number from 0 to 4294967295")]
     Number,
+    #[error("should be a number from 0 to 18446744073709551615")]
+    Long,
+    #[error("should be bytes in hexadecimal, - for none, or @LINE for those that a line wrote")]
+    Bytes,
     #[error("should not be there: the line ends before it")]
     EndOfLine,
 }

@@ -1,10 +1,11 @@
 // The header: what the script runs.
 ghost use Rattle.std.specs.Prelude.{◌≡◌};
-ghost use Rattle.script.specs.Cutting.{words_of};
-ghost use Rattle.script.specs.Headers.{header_of, service_of, sessions_of, register_of, HeadersReadBack};
+ghost use Rattle.texts.specs.Cutting.{words_of};
+ghost use Rattle.script.specs.Headers.{header_of, service_of, sessions_of, register_of, counter_of, HeadersReadBack};
 
-use super::cursors::Words;
 use super::faults::{Expected, Fault};
+use super::keys::Key;
+use super::words::Words;
 use std::fmt;
 
 /// A register that can stand alone or below sessions.
@@ -21,10 +22,19 @@ pub enum ServiceKind {
     Sessions(RegisterKind),
 }
 
+/// A counter alone: the number of the group's seats, the counter's seat, and its key.
+#[derive(Clone, Copy, PartialEq, Eq, Debug)]
+pub struct CounterHeader {
+    pub seats: u32,
+    pub seat: u32,
+    pub key: Key,
+}
+
 /// What a script runs.
 #[derive(Clone, Copy, PartialEq, Eq, Debug)]
 pub enum Header {
     Register(ServiceKind),
+    Counter(CounterHeader),
 }
 
 impl fmt::Display for RegisterKind {
@@ -57,8 +67,20 @@ pub fn read_header(line: &[u8]) -> Result<Option<Header>, Fault>
     match words.next() {
         None => Ok(None),
         Some(b"register") => Ok(Some(Header::Register(read_service(&mut words)?))),
+        Some(b"counter") => Ok(Some(Header::Counter(read_counter(&mut words)?))),
         Some(_) => Err(fault),
     }
+}
+
+// The seats, the seat and the key of a counter, and nothing behind them.
+#[tactic(auto, unfolding(crate::specs::Headers::counter_of))]
+fn read_counter(words: &mut Words) -> Result<CounterHeader, Fault>
+    ensures { result ≡ counter_of words.old }
+{
+    let seats = words.number()?;
+    let seat = words.number()?;
+    let key = Key::next_of(words)?;
+    words.end_with(CounterHeader { seats, seat, key })
 }
 
 // A service, and nothing behind it.

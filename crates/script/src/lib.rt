@@ -1,20 +1,19 @@
-// The language of run scripts: lines, words, numbers, the header and the entries, and the closing record's parts.
+// The language of run scripts: the header, the entries that stand below it, and the closing record's counts.
 #![tactic(auto)]
 
-mod cursors;
-mod cutting;
+mod bytes;
+mod counter_entries;
 mod entries;
 mod faults;
 mod headers;
-mod hexes;
-mod numerals;
+mod keys;
 mod tallies;
+mod words;
 
-pub use cursors::Lines;
-pub use cutting::{next_line, next_word};
+pub use bytes::Bytes;
+pub use counter_entries::{Certify, Claim, CounterEntry, read_counter_entry};
 pub use entries::{Entry, read_entry};
 pub use faults::{Expected, Fault};
-pub use headers::{Header, RegisterKind, ServiceKind, read_header};
-pub use hexes::{Hex, read_hex};
-pub use numerals::read_number;
-pub use tallies::Tally;
+pub use headers::{CounterHeader, Header, RegisterKind, ServiceKind, read_header};
+pub use keys::Key;
+pub use tallies::{Tally, YesNo};

@@ -1,6 +1,7 @@
 // The counts of the closing record.
-ghost use Rattle.std.specs.Prelude.{◌≡◌, length, replicate, slice_index, slice_set};
-ghost use Rattle.script.specs.Tallies.{row_of, one_more};
+ghost use Rattle.std.specs.Prelude.{◌≡◌, if◌then◌else◌, length, replicate, slice_index, slice_set};
+ghost use Rattle.script.specs.Tallies.{row_of};
+ghost use Rattle.texts.specs.Lines.{one_more};
 
 // Statuses below this one are counted one by one, and the others together behind them.
 const COUNTED: u32 = 5;
@@ -46,6 +47,48 @@ impl Tally {
         ensures { result ≡ slice_index self.now.rows (row_of status) }
     {
         self.rows[row_of(status)]
+    }
+}
+
+/// How many answers were yes, and how many no.
+#[derive(Clone, Copy, PartialEq, Eq, Debug)]
+pub struct YesNo {
+    yes: u64,
+    no: u64,
+}
+
+impl YesNo {
+    /// Nothing is answered yet.
+    pub fn new() -> YesNo
+        ensures { result ≡ record { yes = 0; no = 0 } }
+    {
+        YesNo { yes: 0, no: 0 }
+    }
+
+    /// Counts one answer more. A count stays at the largest number once it is there.
+    pub fn note(&mut self, yes: bool)
+        ensures yes { self.new.yes ≡ (if yes then one_more self.old.yes else self.old.yes) }
+        ensures no { self.new.no ≡ (if yes then self.old.no else one_more self.old.no) }
+    {
+        if yes {
+            self.yes = self.yes.saturating_add(1);
+        } else {
+            self.no = self.no.saturating_add(1);
+        }
+    }
+
+    /// How many answers were yes.
+    pub fn yes(&self) -> u64
+        ensures { result ≡ self.now.yes }
+    {
+        self.yes
+    }
+
+    /// How many answers were no.
+    pub fn no(&self) -> u64
+        ensures { result ≡ self.now.no }
+    {
+        self.no
     }
 }
 

@@ -1,9 +1,9 @@
 // One line of published input and result.
+use super::bytes::read_bytes;
 use super::functions::Function;
 use super::stops::{Fault, Stop};
-use super::texts::read_bytes;
-use script::next_word;
 use std::alloc::Global;
+use texts::next_word;
 
 // A line that is read word by word.
 #[derive(Clone, Copy, PartialEq, Eq, Debug)]

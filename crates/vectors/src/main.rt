@@ -2,19 +2,19 @@
 // was published.
 #![tactic(auto)]
 
+mod bytes;
 mod functions;
 mod lines;
 mod pieces;
 mod proved;
 mod stops;
-mod texts;
 
 use console::{read_all, told};
 use lines::run_line;
 use proved::proved_results;
-use script::Lines;
 use std::process::ExitCode;
 use stops::Stop;
+use texts::Lines;
 
 fn main(rt: HostRuntime) -> ExitCode {
     let outcome = run(&rt);

@@ -1,0 +1,6 @@
+-- The lemmas that the answers share.
+pub mod Digits
+pub mod Pairs
+pub mod Pieces
+pub mod Rows
+pub mod Runs
