@@ -9,7 +9,7 @@ use Rattle.script.specs.declared.bytes.Bytes.TheVariants.{Here, Line}
 use Rattle.script.specs.declared.faults.Expected.TheVariants.{Bytes as NoBytes}
 use Rattle.script.specs.declared.faults.Fault.{Fault}
 
--- `@` and the number of a line for those that it wrote, `-` for none, or hexadecimal digits
+-- `@` (64) and the number of a line for those that it wrote, `-` for none, or hexadecimal digits
 abbrev pub bytes_named : List ℕ → Option Bytes
 bytes_named word =
     if nat_eq (slice_index word 0) 64 then option_map Line (number_of (drop 1 word))
