@@ -2,7 +2,7 @@
 use Rattle.std.proofs.Common.{◌≡◌, ℕ, List, [], ◌∷◌, map, codes, Some, Ok, decimal, refl, ap, ◌∙◌, arith, lit<}
 use Rattle.std.specs.List.{AllByRecursion}
 use Rattle.texts.specs.Cutting.{words_of, IsWord}
-use Rattle.script.specs.Entries.{entry_of, numbers_of, EntriesReadBack}
+use Rattle.script.specs.Entries.{entry_of, request_of, numbers_of, EntriesReadBack}
 use Rattle.script.specs.Headers.{header_of, header_words, service_of, counter_of, HeadersReadBack}
 use Rattle.script.specs.Keys.{key_at, key_words, KeyFits}
 use Rattle.texts.specs.Numerals.{number_of}
@@ -49,7 +49,7 @@ headers_read_back (Counter counter) fits =
 
 -- five words that are numbers
 request_read : (u v w x y : List ℕ) {client sequence code key value : ℕ} → number_of u ≡ Some client → number_of v ≡ Some sequence → number_of w ≡ Some code → number_of x ≡ Some key → number_of y ≡ Some value → entry_of (codes "apply" ∷ u ∷ v ∷ w ∷ x ∷ y ∷ []) ≡ Ok (Some (Apply (record { client = client; sequence = sequence; code = code; key = key; value = value })))
-unfolding spelt
+unfolding spelt request_of
 request_read u v w x y a b c d e = simp (a, b, c, d, e)
 
 apply_is_word : IsWord (codes "apply")

@@ -11,7 +11,7 @@ use Rattle.script.specs.declared.faults.Expected.TheVariants.{Entry as NoEntry}
 use Rattle.script.specs.declared.faults.Fault.{Fault}
 
 -- five numbers and the line's end
-abbrev pub request_of : Left → Result Request Fault
+unfoldable pub request_of : Left → Result Request Fault
 request_of left =
     with_number left (λ client left₁.
     with_number left₁ (λ sequence left₂.

@@ -30,6 +30,7 @@ pub fn read_entry(line: &[u8]) -> Result<Option<Entry>, Fault>
 }
 
 // The five numbers of a request, and nothing behind them.
+#[tactic(auto, unfolding(crate::specs::Entries::request_of))]
 fn read_request(words: &mut Words) -> Result<Request, Fault>
     ensures { result ≡ request_of words.old }
 {

@@ -57,7 +57,7 @@ impl fmt::Display for ServiceKind {
 
 /// The header that a line is, nothing for a line without words, or the first fault from the left.
 /// Every header that is written with single spaces reads as itself.
-#[tactic(auto, using(crate::proofs::Spelling::spelling, crate::proofs::Backs::headers_read_back))]
+#[tactic(auto, using(crate::proofs::Backs::headers_read_back), unfolding(crate::specs::Words::spelt))]
 pub fn read_header(line: &[u8]) -> Result<Option<Header>, Fault>
     ensures value { result ≡ header_of (words_of line.now) }
     ensures back { HeadersReadBack }
@@ -66,8 +66,12 @@ pub fn read_header(line: &[u8]) -> Result<Option<Header>, Fault>
     let fault = words.fault(Expected::Header);
     match words.next() {
         None => Ok(None),
-        Some(b"register") => Ok(Some(Header::Register(read_service(&mut words)?))),
-        Some(b"counter") => Ok(Some(Header::Counter(read_counter(&mut words)?))),
+        Some(word) if word == b"register".as_slice() => {
+            Ok(Some(Header::Register(read_service(&mut words)?)))
+        }
+        Some(word) if word == b"counter".as_slice() => {
+            Ok(Some(Header::Counter(read_counter(&mut words)?)))
+        }
         Some(_) => Err(fault),
     }
 }
