@@ -1,0 +1,105 @@
+// Any message: the bytes are read by the type that begins them.
+ghost use Rattle.std.specs.Prelude.{◌≡◌};
+ghost use Rattle.std.specs.Option.{ok_or};
+ghost use Rattle.counter.specs.Statements.{stated};
+ghost use Rattle.terms.specs.declared.refusals.Refusal.TheVariants.{NoMessage};
+ghost use Rattle.message.specs.Decoding.{decode, encode, type_number, says, tag_of};
+
+use super::checkpoint::Checkpoint;
+use super::commit::Commit;
+use super::delivered::{Delivered, read_whole};
+use super::fields::{CHECKPOINT, COMMIT, NEW_VIEW, PREPARE, VIEW_CHANGE};
+use super::new_view::NewView;
+use super::prepare::Prepare;
+use super::view_change::ViewChange;
+use counter::Statement;
+use terms::{GroupSize, Refusal, TAG_BYTES};
+
+/// A message of any kind, as a part of delivered bytes.
+#[derive(Drop)]
+pub enum Message<'a> {
+    Prepare(Prepare<'a>),
+    Commit(Commit<'a>),
+    Checkpoint(Checkpoint<'a>),
+    ViewChange(ViewChange<'a>),
+    NewView(NewView<'a>),
+}
+
+impl<'a> Message<'a> {
+    /// The message that bytes are, or refusal 5.
+    pub fn read(bytes: &'a [u8]) -> Result<Message<'a>, Refusal>
+        ensures value { result ≡ ok_or (decode bytes.now) NoMessage }
+    {
+        read_by_type(bytes).ok_or(Refusal::NoMessage)
+    }
+
+    /// The number of the message's type, which begins its bytes.
+    pub fn type_number(&self) -> u32
+        ensures { result ≡ type_number self.now }
+    {
+        match self {
+            Message::Prepare(_) => PREPARE,
+            Message::Commit(_) => COMMIT,
+            Message::Checkpoint(_) => CHECKPOINT,
+            Message::ViewChange(_) => VIEW_CHANGE,
+            Message::NewView(_) => NEW_VIEW,
+        }
+    }
+
+    /// The bytes of the whole message.
+    pub fn bytes(&self) -> &'a [u8]
+        ensures { result.now ≡ encode self.now }
+    {
+        match self {
+            Message::Prepare(prepare) => prepare.bytes(),
+            Message::Commit(commit) => commit.bytes(),
+            Message::Checkpoint(checkpoint) => checkpoint.bytes(),
+            Message::ViewChange(change) => change.bytes(),
+            Message::NewView(new_view) => new_view.bytes(),
+        }
+    }
+
+    /// The message's tag.
+    pub fn tag(&self) -> &'a [u8; TAG_BYTES]
+        ensures { result.now ≡ tag_of self.now }
+    {
+        match self {
+            Message::Prepare(prepare) => prepare.tag,
+            Message::Commit(commit) => commit.tag,
+            Message::Checkpoint(checkpoint) => checkpoint.tag,
+            Message::ViewChange(change) => change.tag,
+            Message::NewView(new_view) => new_view.tag,
+        }
+    }
+
+    /// The statement for which the message is tagged in a group.
+    pub fn statement(&self, group: GroupSize) -> Statement<'a>
+        ensures { stated result ≡ says group.seats self.now }
+    {
+        match self {
+            Message::Prepare(prepare) => prepare.statement(group),
+            Message::Commit(commit) => commit.statement(group),
+            Message::Checkpoint(checkpoint) => checkpoint.statement(group),
+            Message::ViewChange(change) => change.statement(group),
+            Message::NewView(new_view) => new_view.statement(group),
+        }
+    }
+}
+
+// The message that bytes are, by the type that begins them.
+#[tactic(auto, unfolding(crate::specs::Decoding::decode))]
+fn read_by_type(bytes: &[u8]) -> Option<Message<'_>>
+    ensures { result ≡ decode bytes.now }
+{
+    let [a, b, c, d, ..] = bytes else {
+        return None;
+    };
+    match u32::from_be_bytes([*a, *b, *c, *d]) {
+        PREPARE => Some(Message::Prepare(read_whole(bytes)?)),
+        COMMIT => Some(Message::Commit(read_whole(bytes)?)),
+        CHECKPOINT => Some(Message::Checkpoint(read_whole(bytes)?)),
+        VIEW_CHANGE => Some(Message::ViewChange(read_whole(bytes)?)),
+        NEW_VIEW => Some(Message::NewView(read_whole(bytes)?)),
+        _ => None,
+    }
+}

@@ -1,0 +1,77 @@
+// NEW-VIEW: the leader of a new view shows a quorum that asks for it, and proposes again what may have been carried out.
+use super::delivered::{Delivered, before, untagged};
+use super::fields::{NEW_VIEW, VIEW_COUNTER, behind_type};
+use super::prepare::Prepares;
+use super::view_change::ViewChanges;
+use counter::{Kind, Statement};
+use std::marker::Model;
+use terms::{GroupSize, TAG_BYTES, View};
+use xdr::{Number, read_opaque};
+
+/// A NEW-VIEW, as a part of delivered bytes.
+#[derive(Drop)]
+pub struct NewView<'a> {
+    pub view: View,
+    /// The quorum that asks for the view.
+    pub changes: ViewChanges<'a>,
+    pub prepares: Prepares<'a>,
+    pub tag: &'a [u8; TAG_BYTES],
+    bytes: &'a [u8],
+}
+
+impl<'a> Model for NewView<'a> {
+    ghost use Rattle.message.specs.Messages.{NewView};
+
+    ghost Value = { NewView };
+
+    ghost use Rattle.message.specs.Encoding.{Tagged, untagged_new_view};
+
+    ghost view = { λ n. record { view = n.view.0; changes = n.changes; prepares = n.prepares; tag = n.tag.now } };
+
+    ghost invariant = { λ n. Tagged n.bytes.now (untagged_new_view (record { view = n.view.0; changes = n.changes; prepares = n.prepares; tag = n.tag.now })) n.tag.now };
+}
+
+impl<'a> Delivered<'a> for NewView<'a> {
+    ghost use Rattle.message.specs.Encoding.{encode_new_view};
+    ghost use Rattle.message.specs.Reading.{new_view_from};
+    ghost use Rattle.message.specs.Statements.{new_view_says};
+
+    ghost layout = { encode_new_view };
+
+    ghost from = { new_view_from };
+
+    ghost says = { new_view_says };
+
+    #[tactic(auto, unfolding(crate::specs::Reading::new_view_from))]
+    fn read(bytes: &'a [u8]) -> Option<(NewView<'a>, &'a [u8])> {
+        let rest = behind_type(bytes, NEW_VIEW)?;
+        let (view, rest) = u32::read(rest)?;
+        let (changes, rest) = ViewChanges::read(rest)?;
+        let (prepares, rest) = Prepares::read(rest)?;
+        let (tag, rest) = read_opaque(rest)?;
+        let new_view = NewView {
+            view: View(view),
+            changes,
+            prepares,
+            tag,
+            bytes: before(bytes, rest),
+        };
+        Some((new_view, rest))
+    }
+
+    fn bytes(&self) -> &'a [u8] {
+        self.bytes
+    }
+
+    #[tactic(auto, using(crate::proofs::Fronts::without_tag))]
+    fn statement(&self, group: GroupSize) -> Statement<'a> {
+        Statement {
+            kind: Kind::Independent.number(),
+            seat: group.leader(self.view),
+            number: VIEW_COUNTER,
+            new: u64::from(self.view.0),
+            old: 0,
+            message: untagged(self.bytes),
+        }
+    }
+}
