@@ -1,38 +1,15 @@
 -- What was read stands in front of what was left, and its tag stands at its end.
-use Rattle.std.proofs.lemmas.List.{take_at}
-use Rattle.std.proofs.Common.{◌≡◌, ℕ, ◌-◌, ◌<◌, List, ◌++◌, length, get_or, take, Some, Option, refl, ap, ◌∙◌, arith, length-append}
-use Rattle.terms.specs.Numbers.{tag_bytes}
-use Rattle.xdr.specs.Laws.{Exact}
-use Rattle.xdr.proofs.Exactness.{bytes_from_places}
-use Rattle.message.specs.Messages.{Prepare, Commit, Checkpoint, ViewChange, NewView}
-use Rattle.message.specs.Encoding.{Tagged, untagged_prepare, untagged_commit, untagged_checkpoint, untagged_view_change, untagged_new_view}
-use Rattle.message.specs.Reading.{prepare_from, commit_from, checkpoint_from, view_change_from, new_view_from}
-use Rattle.message.proofs.Exactness.{prepares_exact, commits_exact, checkpoints_exact, view_changes_exact, new_views_exact}
-
--- a message's bytes up to its tag
-pub without_tag : (part bytes body tag : List ℕ) → Tagged bytes body tag → part ≡ take (length bytes - tag_bytes) bytes → part ≡ body
-without_tag part bytes body tag whole is =
-    let short : length bytes - tag_bytes ≡ length body = omega (arith, ap length whole.0, length-append body tag, whole.1) in
-    is ∙ rw (short, whole.0) (take_at body tag (length body) refl)
+use Rattle.std.proofs.Common.{◌≡◌, ℕ, ◌-◌, ◌<◌, List, length, get_or, take, Some}
+use Rattle.parts.proofs.Fronts.{front}
+use Rattle.parts.specs.Encoding.{Tagged}
+use Rattle.message.specs.Encoding.{untagged_view_change, untagged_new_view}
+use Rattle.message.specs.Messages.{ViewChange, NewView}
+use Rattle.message.specs.Reading.{view_change_from, new_view_from}
+use Rattle.message.proofs.Exactness.{view_changes_exact, new_views_exact}
 
 module _ (part bytes rest : List ℕ) (is : part ≡ take (length bytes - length rest) bytes) (small : (k : ℕ) → get_or bytes k 0 < 256) where
-  front : {X : Type 0} {fits : X → Type 0} {write : X → List ℕ} {read : List ℕ → Option (X × List ℕ)} → Exact fits write read → (x : X) → read bytes ≡ Some (x, rest) → (part ≡ write x) × fits x
-  front {write = write} exact x e =
-      let only = exact.only bytes x rest (bytes_from_places bytes small) e in
-      let long : length bytes - length rest ≡ length (write x) = omega (arith, ap length only.0, length-append (write x) rest) in
-      (is ∙ rw (long, only.0) (take_at (write x) rest (length (write x)) refl), only.1)
-
-  pub prepare_front : (p : Prepare) → prepare_from bytes ≡ Some (p, rest) → Tagged part (untagged_prepare p) p.tag
-  prepare_front p e = let f = front prepares_exact p e in (f.0, f.1.3)
-
-  pub commit_front : (c : Commit) → commit_from bytes ≡ Some (c, rest) → Tagged part (untagged_commit c) c.tag
-  commit_front c e = let f = front commits_exact c e in (f.0, f.1.4)
-
-  pub checkpoint_front : (c : Checkpoint) → checkpoint_from bytes ≡ Some (c, rest) → Tagged part (untagged_checkpoint c) c.tag
-  checkpoint_front c e = let f = front checkpoints_exact c e in (f.0, f.1.3)
-
   pub view_change_front : (c : ViewChange) → view_change_from bytes ≡ Some (c, rest) → Tagged part (untagged_view_change c) c.tag
-  view_change_front c e = let f = front view_changes_exact c e in (f.0, f.1.9)
+  view_change_front c e = let f = front part bytes rest is small view_changes_exact c e in (f.0, f.1.9)
 
   pub new_view_front : (n : NewView) → new_view_from bytes ≡ Some (n, rest) → Tagged part (untagged_new_view n) n.tag
-  new_view_front n e = let f = front new_views_exact n e in (f.0, f.1.5)
+  new_view_front n e = let f = front part bytes rest is small new_views_exact n e in (f.0, f.1.5)

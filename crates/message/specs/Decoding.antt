@@ -4,9 +4,12 @@ use Rattle.std.specs.Option.{option_map}
 use Rattle.counter.specs.Statements.{Stated}
 use Rattle.xdr.specs.Layout.{fixed}
 use Rattle.xdr.specs.Reading.{and_then, int_from}
-use Rattle.message.specs.Encoding.{prepare_type, commit_type, checkpoint_type, view_change_type, new_view_type, untagged_prepare, untagged_commit, untagged_checkpoint, untagged_view_change, untagged_new_view}
-use Rattle.message.specs.Reading.{whole, prepare_from, commit_from, checkpoint_from, view_change_from, new_view_from}
-use Rattle.message.specs.Statements.{prepare_says, commit_says, checkpoint_says, view_change_says, new_view_says}
+use Rattle.parts.specs.Encoding.{prepare_type, commit_type, checkpoint_type, view_change_type, new_view_type, untagged_prepare, untagged_commit, untagged_checkpoint}
+use Rattle.parts.specs.Reading.{whole, prepare_from, commit_from, checkpoint_from}
+use Rattle.parts.specs.Statements.{prepare_says, commit_says, checkpoint_says}
+use Rattle.message.specs.Encoding.{untagged_view_change, untagged_new_view}
+use Rattle.message.specs.Reading.{view_change_from, new_view_from}
+use Rattle.message.specs.Statements.{view_change_says, new_view_says}
 use Rattle.message.specs.declared.message.Message.{Message}
 use Rattle.message.specs.declared.message.Message.TheVariants.{Prepare, Commit, Checkpoint, ViewChange, NewView}
 

@@ -1,8 +1,7 @@
--- The five messages, their bytes, how bytes are read, and what these owe one another.
+-- The messages that hold others, and any message.
 pub mod Decoding
 pub mod Encoding
+pub mod Fits
 pub mod Messages
 pub mod Reading
-pub mod Lists
 pub mod Statements
-pub mod Laws

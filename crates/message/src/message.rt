@@ -5,12 +5,8 @@ ghost use Rattle.counter.specs.Statements.{stated};
 ghost use Rattle.terms.specs.declared.refusals.Refusal.TheVariants.{NoMessage};
 ghost use Rattle.message.specs.Decoding.{decode, encode, type_number, says, tag_of};
 
-use super::checkpoint::Checkpoint;
-use super::commit::Commit;
-use super::delivered::{Delivered, read_whole};
-use super::fields::{CHECKPOINT, COMMIT, NEW_VIEW, PREPARE, VIEW_CHANGE};
+use parts::{CHECKPOINT, COMMIT, Checkpoint, Commit, Delivered, NEW_VIEW, PREPARE, Prepare, VIEW_CHANGE, read_whole};
 use super::new_view::NewView;
-use super::prepare::Prepare;
 use super::view_change::ViewChange;
 use counter::Statement;
 use terms::{GroupSize, Refusal, TAG_BYTES};

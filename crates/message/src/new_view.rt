@@ -1,7 +1,5 @@
 // NEW-VIEW: the leader of a new view shows a quorum that asks for it, and proposes again what may have been carried out.
-use super::delivered::{Delivered, before, untagged};
-use super::fields::{NEW_VIEW, VIEW_COUNTER, behind_type};
-use super::prepare::Prepares;
+use parts::{Delivered, NEW_VIEW, Prepares, VIEW_COUNTER, before, behind_type, untagged};
 use super::view_change::ViewChanges;
 use counter::{Kind, Statement};
 use std::marker::Model;
@@ -24,7 +22,8 @@ impl<'a> Model for NewView<'a> {
 
     ghost Value = { NewView };
 
-    ghost use Rattle.message.specs.Encoding.{Tagged, untagged_new_view};
+    ghost use Rattle.parts.specs.Encoding.{Tagged};
+    ghost use Rattle.message.specs.Encoding.{untagged_new_view};
 
     ghost view = { λ n. record { view = n.view.0; changes = n.changes; prepares = n.prepares; tag = n.tag.now } };
 
@@ -63,7 +62,7 @@ impl<'a> Delivered<'a> for NewView<'a> {
         self.bytes
     }
 
-    #[tactic(auto, using(crate::proofs::Fronts::without_tag))]
+    #[tactic(auto, using(parts::proofs::Fronts::without_tag))]
     fn statement(&self, group: GroupSize) -> Statement<'a> {
         Statement {
             kind: Kind::Independent.number(),

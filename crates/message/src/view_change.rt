@@ -5,11 +5,8 @@ ghost use Rattle.terms.specs.Numbers.{largest_quorum};
 ghost use Rattle.xdr.specs.Reading.{value_and_rest, list_from};
 ghost use Rattle.message.specs.Reading.{view_change_from};
 
-use super::checkpoint::Checkpoints;
-use super::delivered::{Delivered, before, untagged};
-use super::fields::{ORDER_COUNTER, VIEW_CHANGE, behind_type};
-use super::nested::Nested;
-use super::prepare::Prepares;
+
+use parts::{Checkpoints, Delivered, Nested, ORDER_COUNTER, Prepares, VIEW_CHANGE, before, behind_type, untagged};
 use counter::{Kind, Statement};
 use std::marker::Model;
 use terms::{GroupSize, LARGEST_QUORUM, Order, TAG_BYTES, View, pair};
@@ -38,7 +35,8 @@ impl<'a> Model for ViewChange<'a> {
 
     ghost Value = { ViewChange };
 
-    ghost use Rattle.message.specs.Encoding.{Tagged, untagged_view_change};
+    ghost use Rattle.parts.specs.Encoding.{Tagged};
+    ghost use Rattle.message.specs.Encoding.{untagged_view_change};
 
     ghost view = { λ c. record { sender = c.sender; target = c.target.0; previous = c.previous; from = c.from.0; low = c.low.0; proof = c.proof; entries = c.entries; tag = c.tag.now } };
 
@@ -85,7 +83,7 @@ impl<'a> Delivered<'a> for ViewChange<'a> {
         self.bytes
     }
 
-    #[tactic(auto, using(crate::proofs::Fronts::without_tag))]
+    #[tactic(auto, using(parts::proofs::Fronts::without_tag))]
     fn statement(&self, _group: GroupSize) -> Statement<'a> {
         Statement {
             kind: Kind::Continuing.number(),
@@ -110,7 +108,7 @@ impl<'a> Model for ViewChanges<'a> {
 
     ghost Value = { List ViewChange };
 
-    ghost use Rattle.message.specs.Lists.{listed};
+    ghost use Rattle.parts.specs.Lists.{listed};
     ghost use Rattle.message.specs.Reading.{view_change_from};
 
     ghost view = { λ c. listed view_change_from c.list };

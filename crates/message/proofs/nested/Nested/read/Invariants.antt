@@ -1,8 +1,0 @@
--- As many have been read as the loop has turned.
-use Rattle.std.proofs.Common.{◌≡◌, Some}
-use Rattle.xdr.specs.Reading.{times_from}
-use Rattle.message.specs.Lists.{items_from}
-use Rattle.message.proofs.nested.Nested.read.Given as goal
-
-abbrev pub invariant-loop : goal.invariant-loop
-invariant-loop g l = times_from g.M.Delivered.from l.counter l.bytes ≡ Some (items_from g.M.Delivered.from l.counter l.bytes, l.rest)

@@ -1,0 +1,22 @@
+-- The messages that hold others, within their limits.
+use Rattle.std.specs.Prelude.{◌≡◌, ℕ, ◌^◌, ◌<◌, ◌≤◌, List, length}
+use Rattle.std.specs.List.{AllByRecursion}
+use Rattle.terms.specs.Numbers.{largest_quorum, window, tag_bytes}
+use Rattle.parts.specs.Fits.{Int, PrepareFits, CheckpointFits}
+use Rattle.message.specs.Messages.{ViewChange, NewView}
+
+-- a previous value of 64 bits, and no more than a quorum of CHECKPOINTs and a window of PREPAREs
+abbrev pub ViewChangeFits : ViewChange → Type 0
+ViewChangeFits c =
+    Int c.sender × Int c.target × (c.previous < 2 ^ 64) × Int c.from × Int c.low
+    × (length c.proof ≤ largest_quorum) × AllByRecursion CheckpointFits c.proof
+    × (length c.entries ≤ window) × AllByRecursion PrepareFits c.entries
+    × (length c.tag ≡ tag_bytes)
+
+-- no more than a quorum of VIEW-CHANGEs and a window of PREPAREs
+abbrev pub NewViewFits : NewView → Type 0
+NewViewFits n =
+    Int n.view
+    × (length n.changes ≤ largest_quorum) × AllByRecursion ViewChangeFits n.changes
+    × (length n.prepares ≤ window) × AllByRecursion PrepareFits n.prepares
+    × (length n.tag ≡ tag_bytes)

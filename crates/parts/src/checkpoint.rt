@@ -1,0 +1,125 @@
+// CHECKPOINT: a replica tells the digest of its register behind the request of an order.
+ghost use Rattle.std.specs.Prelude.{◌≡◌, length, slice_get};
+ghost use Rattle.std.specs.Option.{option_map};
+ghost use Rattle.terms.specs.Numbers.{largest_quorum};
+ghost use Rattle.xdr.specs.Reading.{value_and_rest, list_from};
+ghost use Rattle.parts.specs.Reading.{checkpoint_from};
+
+use super::delivered::{Delivered, before, untagged};
+use super::fields::{CHECKPOINT, CHECKPOINT_COUNTER, behind_type};
+use super::nested::Nested;
+use counter::{Kind, Statement};
+use std::marker::Model;
+use terms::{DIGEST_BYTES, GroupSize, LARGEST_QUORUM, Order, TAG_BYTES};
+use xdr::{Number, read_opaque};
+
+/// A CHECKPOINT, as a part of delivered bytes.
+#[derive(Drop)]
+pub struct Checkpoint<'a> {
+    pub sender: u32,
+    pub order: Order,
+    pub digest: &'a [u8; DIGEST_BYTES],
+    pub tag: &'a [u8; TAG_BYTES],
+    bytes: &'a [u8],
+}
+
+impl<'a> Model for Checkpoint<'a> {
+    ghost use Rattle.parts.specs.Messages.{Checkpoint};
+
+    ghost Value = { Checkpoint };
+
+    ghost use Rattle.parts.specs.Encoding.{Tagged, untagged_checkpoint};
+
+    ghost view = { λ c. record { sender = c.sender; order = c.order.0; digest = c.digest.now; tag = c.tag.now } };
+
+    ghost invariant = { λ c. Tagged c.bytes.now (untagged_checkpoint (record { sender = c.sender; order = c.order.0; digest = c.digest.now; tag = c.tag.now })) c.tag.now };
+}
+
+impl<'a> Delivered<'a> for Checkpoint<'a> {
+    ghost use Rattle.parts.specs.Encoding.{encode_checkpoint};
+    ghost use Rattle.parts.specs.Reading.{checkpoint_from};
+    ghost use Rattle.parts.specs.Statements.{checkpoint_says};
+
+    ghost layout = { encode_checkpoint };
+
+    ghost from = { checkpoint_from };
+
+    ghost says = { checkpoint_says };
+
+    #[tactic(auto, unfolding(crate::specs::Reading::checkpoint_from))]
+    fn read(bytes: &'a [u8]) -> Option<(Checkpoint<'a>, &'a [u8])> {
+        let rest = behind_type(bytes, CHECKPOINT)?;
+        let (sender, rest) = u32::read(rest)?;
+        let (order, rest) = u32::read(rest)?;
+        let (digest, rest) = read_opaque(rest)?;
+        let (tag, rest) = read_opaque(rest)?;
+        let checkpoint = Checkpoint {
+            sender,
+            order: Order(order),
+            digest,
+            tag,
+            bytes: before(bytes, rest),
+        };
+        Some((checkpoint, rest))
+    }
+
+    fn bytes(&self) -> &'a [u8] {
+        self.bytes
+    }
+
+    #[tactic(auto, using(crate::proofs::Fronts::without_tag))]
+    fn statement(&self, _group: GroupSize) -> Statement<'a> {
+        Statement {
+            kind: Kind::Continuing.number(),
+            seat: self.sender,
+            number: CHECKPOINT_COUNTER,
+            new: 0,
+            old: 0,
+            message: untagged(self.bytes),
+        }
+    }
+}
+
+/// The CHECKPOINTs that prove a low mark: at most the largest quorum of them.
+#[derive(Drop)]
+pub struct Checkpoints<'a> {
+    list: Nested<'a, Checkpoint<'a>>,
+}
+
+impl<'a> Model for Checkpoints<'a> {
+    ghost use Rattle.std.specs.Prelude.{◌≡◌, List, length};
+    ghost use Rattle.parts.specs.Messages.{Checkpoint};
+
+    ghost Value = { List Checkpoint };
+
+    ghost use Rattle.parts.specs.Lists.{listed};
+    ghost use Rattle.parts.specs.Reading.{checkpoint_from};
+
+    ghost view = { λ c. listed checkpoint_from c.list };
+
+    ghost invariant = { λ c. length (listed checkpoint_from c.list) ≡ c.list.count };
+}
+
+impl<'a> Checkpoints<'a> {
+    /// How many there are.
+    pub fn len(&self) -> usize
+        ensures { result ≡ length self.now }
+    {
+        self.list.count as usize
+    }
+
+    /// The one at a place from 0 on, if there is one.
+    pub fn get(&self, place: usize) -> Option<Checkpoint<'a>>
+        ensures { result ≡ slice_get self.now place }
+    {
+        self.list.get(place)
+    }
+
+    // Reads a counted list of them.
+    pub fn read(bytes: &'a [u8]) -> Option<(Checkpoints<'a>, &'a [u8])>
+        ensures { option_map value_and_rest result ≡ list_from checkpoint_from largest_quorum bytes.now }
+    {
+        let (list, rest) = Nested::read(bytes, LARGEST_QUORUM)?;
+        Some((Checkpoints { list }, rest))
+    }
+}

@@ -1,0 +1,125 @@
+// PREPARE: the leader of a view proposes a request for an order.
+ghost use Rattle.std.specs.Prelude.{◌≡◌, length, slice_get};
+ghost use Rattle.std.specs.Option.{option_map};
+ghost use Rattle.terms.specs.Numbers.{window};
+ghost use Rattle.xdr.specs.Reading.{value_and_rest, list_from};
+ghost use Rattle.parts.specs.Reading.{prepare_from};
+
+use super::delivered::{Delivered, before, untagged};
+use super::fields::{ORDER_COUNTER, PREPARE, behind_type, read_request};
+use super::nested::Nested;
+use counter::{Kind, Statement};
+use std::marker::Model;
+use terms::{GroupSize, Order, Request, TAG_BYTES, View, WINDOW, pair};
+use xdr::{Number, read_opaque};
+
+/// A PREPARE, as a part of delivered bytes.
+#[derive(Drop)]
+pub struct Prepare<'a> {
+    pub view: View,
+    pub order: Order,
+    pub request: Request,
+    pub tag: &'a [u8; TAG_BYTES],
+    bytes: &'a [u8],
+}
+
+impl<'a> Model for Prepare<'a> {
+    ghost use Rattle.parts.specs.Messages.{Prepare};
+
+    ghost Value = { Prepare };
+
+    ghost use Rattle.parts.specs.Encoding.{Tagged, untagged_prepare};
+
+    ghost view = { λ p. record { view = p.view.0; order = p.order.0; request = p.request; tag = p.tag.now } };
+
+    ghost invariant = { λ p. Tagged p.bytes.now (untagged_prepare (record { view = p.view.0; order = p.order.0; request = p.request; tag = p.tag.now })) p.tag.now };
+}
+
+impl<'a> Delivered<'a> for Prepare<'a> {
+    ghost use Rattle.parts.specs.Encoding.{encode_prepare};
+    ghost use Rattle.parts.specs.Reading.{prepare_from};
+    ghost use Rattle.parts.specs.Statements.{prepare_says};
+
+    ghost layout = { encode_prepare };
+
+    ghost from = { prepare_from };
+
+    ghost says = { prepare_says };
+
+    #[tactic(auto, unfolding(crate::specs::Reading::prepare_from))]
+    fn read(bytes: &'a [u8]) -> Option<(Prepare<'a>, &'a [u8])> {
+        let rest = behind_type(bytes, PREPARE)?;
+        let (view, rest) = u32::read(rest)?;
+        let (order, rest) = u32::read(rest)?;
+        let (request, rest) = read_request(rest)?;
+        let (tag, rest) = read_opaque(rest)?;
+        let prepare = Prepare {
+            view: View(view),
+            order: Order(order),
+            request,
+            tag,
+            bytes: before(bytes, rest),
+        };
+        Some((prepare, rest))
+    }
+
+    fn bytes(&self) -> &'a [u8] {
+        self.bytes
+    }
+
+    #[tactic(auto, using(crate::proofs::Fronts::without_tag))]
+    fn statement(&self, group: GroupSize) -> Statement<'a> {
+        Statement {
+            kind: Kind::Independent.number(),
+            seat: group.leader(self.view),
+            number: ORDER_COUNTER,
+            new: pair(self.view, self.order),
+            old: 0,
+            message: untagged(self.bytes),
+        }
+    }
+}
+
+/// The PREPAREs in a VIEW-CHANGE or a NEW-VIEW: at most a window of them.
+#[derive(Drop)]
+pub struct Prepares<'a> {
+    list: Nested<'a, Prepare<'a>>,
+}
+
+impl<'a> Model for Prepares<'a> {
+    ghost use Rattle.std.specs.Prelude.{◌≡◌, List, length};
+    ghost use Rattle.parts.specs.Messages.{Prepare};
+
+    ghost Value = { List Prepare };
+
+    ghost use Rattle.parts.specs.Lists.{listed};
+    ghost use Rattle.parts.specs.Reading.{prepare_from};
+
+    ghost view = { λ p. listed prepare_from p.list };
+
+    ghost invariant = { λ p. length (listed prepare_from p.list) ≡ p.list.count };
+}
+
+impl<'a> Prepares<'a> {
+    /// How many there are.
+    pub fn len(&self) -> usize
+        ensures { result ≡ length self.now }
+    {
+        self.list.count as usize
+    }
+
+    /// The one at a place from 0 on, if there is one.
+    pub fn get(&self, place: usize) -> Option<Prepare<'a>>
+        ensures { result ≡ slice_get self.now place }
+    {
+        self.list.get(place)
+    }
+
+    // Reads a counted list of them.
+    pub fn read(bytes: &'a [u8]) -> Option<(Prepares<'a>, &'a [u8])>
+        ensures { option_map value_and_rest result ≡ list_from prepare_from window bytes.now }
+    {
+        let (list, rest) = Nested::read(bytes, WINDOW)?;
+        Some((Prepares { list }, rest))
+    }
+}
