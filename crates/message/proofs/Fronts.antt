@@ -1,15 +1,14 @@
 -- What was read stands in front of what was left, and its tag stands at its end.
 use Rattle.std.proofs.Common.{◌≡◌, ℕ, ◌-◌, ◌<◌, List, length, get_or, take, Some}
 use Rattle.parts.proofs.Fronts.{front}
-use Rattle.parts.specs.Encoding.{Tagged}
-use Rattle.message.specs.Encoding.{untagged_view_change, untagged_new_view}
+use Rattle.message.specs.Fits.{ViewChangeStands, NewViewStands}
 use Rattle.message.specs.Messages.{ViewChange, NewView}
 use Rattle.message.specs.Reading.{view_change_from, new_view_from}
 use Rattle.message.proofs.Exactness.{view_changes_exact, new_views_exact}
 
 module _ (part bytes rest : List ℕ) (is : part ≡ take (length bytes - length rest) bytes) (small : (k : ℕ) → get_or bytes k 0 < 256) where
-  pub view_change_front : (c : ViewChange) → view_change_from bytes ≡ Some (c, rest) → Tagged part (untagged_view_change c) c.tag
-  view_change_front c e = let f = front part bytes rest is small view_changes_exact c e in (f.0, f.1.9)
+  pub view_change_front : (c : ViewChange) → view_change_from bytes ≡ Some (c, rest) → ViewChangeStands part c
+  view_change_front c e = let f = front part bytes rest is small view_changes_exact c e in ((f.0, f.1.9), f.1)
 
-  pub new_view_front : (n : NewView) → new_view_from bytes ≡ Some (n, rest) → Tagged part (untagged_new_view n) n.tag
-  new_view_front n e = let f = front part bytes rest is small new_views_exact n e in (f.0, f.1.5)
+  pub new_view_front : (n : NewView) → new_view_from bytes ≡ Some (n, rest) → NewViewStands part n
+  new_view_front n e = let f = front part bytes rest is small new_views_exact n e in ((f.0, f.1.5), f.1)

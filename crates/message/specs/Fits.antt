@@ -2,7 +2,9 @@
 use Rattle.std.specs.Prelude.{◌≡◌, ℕ, ◌^◌, ◌<◌, ◌≤◌, List, length}
 use Rattle.std.specs.List.{AllByRecursion}
 use Rattle.terms.specs.Numbers.{largest_quorum, window, tag_bytes}
+use Rattle.parts.specs.Encoding.{Tagged}
 use Rattle.parts.specs.Fits.{Int, PrepareFits, CheckpointFits}
+use Rattle.message.specs.Encoding.{untagged_view_change, untagged_new_view}
 use Rattle.message.specs.Messages.{ViewChange, NewView}
 
 -- a previous value of 64 bits, and no more than a quorum of CHECKPOINTs and a window of PREPAREs
@@ -20,3 +22,10 @@ NewViewFits n =
     × (length n.changes ≤ largest_quorum) × AllByRecursion ViewChangeFits n.changes
     × (length n.prepares ≤ window) × AllByRecursion PrepareFits n.prepares
     × (length n.tag ≡ tag_bytes)
+
+-- bytes are those of a message that fits
+abbrev pub ViewChangeStands : List ℕ → ViewChange → Type 0
+ViewChangeStands bytes c = Tagged bytes (untagged_view_change c) c.tag × ViewChangeFits c
+
+abbrev pub NewViewStands : List ℕ → NewView → Type 0
+NewViewStands bytes n = Tagged bytes (untagged_new_view n) n.tag × NewViewFits n

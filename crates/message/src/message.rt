@@ -5,10 +5,13 @@ ghost use Rattle.counter.specs.Statements.{stated};
 ghost use Rattle.terms.specs.declared.refusals.Refusal.TheVariants.{NoMessage};
 ghost use Rattle.message.specs.Decoding.{decode, encode, type_number, says, tag_of};
 
-use parts::{CHECKPOINT, COMMIT, Checkpoint, Commit, Delivered, NEW_VIEW, PREPARE, Prepare, VIEW_CHANGE, read_whole};
 use super::new_view::NewView;
 use super::view_change::ViewChange;
 use counter::Statement;
+use parts::{
+    CHECKPOINT, COMMIT, Checkpoint, Commit, Delivered, NEW_VIEW, PREPARE, Prepare, VIEW_CHANGE,
+    read_whole,
+};
 use terms::{GroupSize, Refusal, TAG_BYTES};
 
 /// A message of any kind, as a part of delivered bytes.

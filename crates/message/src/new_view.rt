@@ -1,7 +1,7 @@
 // NEW-VIEW: the leader of a new view shows a quorum that asks for it, and proposes again what may have been carried out.
-use parts::{Delivered, NEW_VIEW, Prepares, VIEW_COUNTER, before, behind_type, untagged};
 use super::view_change::ViewChanges;
 use counter::{Kind, Statement};
+use parts::{Delivered, NEW_VIEW, Prepares, VIEW_COUNTER, before, behind_type, untagged};
 use std::marker::Model;
 use terms::{GroupSize, TAG_BYTES, View};
 use xdr::{Number, read_opaque};
@@ -22,18 +22,20 @@ impl<'a> Model for NewView<'a> {
 
     ghost Value = { NewView };
 
-    ghost use Rattle.parts.specs.Encoding.{Tagged};
-    ghost use Rattle.message.specs.Encoding.{untagged_new_view};
+    ghost use Rattle.message.specs.Fits.{NewViewStands};
 
     ghost view = { λ n. record { view = n.view.0; changes = n.changes; prepares = n.prepares; tag = n.tag.now } };
 
-    ghost invariant = { λ n. Tagged n.bytes.now (untagged_new_view (record { view = n.view.0; changes = n.changes; prepares = n.prepares; tag = n.tag.now })) n.tag.now };
+    ghost invariant = { λ n. NewViewStands n.bytes.now (record { view = n.view.0; changes = n.changes; prepares = n.prepares; tag = n.tag.now }) };
 }
 
 impl<'a> Delivered<'a> for NewView<'a> {
     ghost use Rattle.message.specs.Encoding.{encode_new_view};
+    ghost use Rattle.message.specs.Fits.{NewViewFits};
     ghost use Rattle.message.specs.Reading.{new_view_from};
     ghost use Rattle.message.specs.Statements.{new_view_says};
+
+    ghost fits = { NewViewFits };
 
     ghost layout = { encode_new_view };
 
@@ -41,7 +43,7 @@ impl<'a> Delivered<'a> for NewView<'a> {
 
     ghost says = { new_view_says };
 
-    #[tactic(auto, unfolding(crate::specs::Reading::new_view_from))]
+    #[tactic(auto, using(crate::proofs::Exactness::new_views_exact), unfolding(crate::specs::Reading::new_view_from))]
     fn read(bytes: &'a [u8]) -> Option<(NewView<'a>, &'a [u8])> {
         let rest = behind_type(bytes, NEW_VIEW)?;
         let (view, rest) = u32::read(rest)?;

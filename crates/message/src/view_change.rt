@@ -5,9 +5,11 @@ ghost use Rattle.terms.specs.Numbers.{largest_quorum};
 ghost use Rattle.xdr.specs.Reading.{value_and_rest, list_from};
 ghost use Rattle.message.specs.Reading.{view_change_from};
 
-
-use parts::{Checkpoints, Delivered, Nested, ORDER_COUNTER, Prepares, VIEW_CHANGE, before, behind_type, untagged};
 use counter::{Kind, Statement};
+use parts::{
+    Checkpoints, Delivered, Nested, ORDER_COUNTER, Prepares, VIEW_CHANGE, before, behind_type,
+    untagged,
+};
 use std::marker::Model;
 use terms::{GroupSize, LARGEST_QUORUM, Order, TAG_BYTES, View, pair};
 use xdr::{Number, read_opaque};
@@ -35,18 +37,20 @@ impl<'a> Model for ViewChange<'a> {
 
     ghost Value = { ViewChange };
 
-    ghost use Rattle.parts.specs.Encoding.{Tagged};
-    ghost use Rattle.message.specs.Encoding.{untagged_view_change};
+    ghost use Rattle.message.specs.Fits.{ViewChangeStands};
 
     ghost view = { λ c. record { sender = c.sender; target = c.target.0; previous = c.previous; from = c.from.0; low = c.low.0; proof = c.proof; entries = c.entries; tag = c.tag.now } };
 
-    ghost invariant = { λ c. Tagged c.bytes.now (untagged_view_change (record { sender = c.sender; target = c.target.0; previous = c.previous; from = c.from.0; low = c.low.0; proof = c.proof; entries = c.entries; tag = c.tag.now })) c.tag.now };
+    ghost invariant = { λ c. ViewChangeStands c.bytes.now (record { sender = c.sender; target = c.target.0; previous = c.previous; from = c.from.0; low = c.low.0; proof = c.proof; entries = c.entries; tag = c.tag.now }) };
 }
 
 impl<'a> Delivered<'a> for ViewChange<'a> {
     ghost use Rattle.message.specs.Encoding.{encode_view_change};
+    ghost use Rattle.message.specs.Fits.{ViewChangeFits};
     ghost use Rattle.message.specs.Reading.{view_change_from};
     ghost use Rattle.message.specs.Statements.{view_change_says};
+
+    ghost fits = { ViewChangeFits };
 
     ghost layout = { encode_view_change };
 
@@ -54,7 +58,7 @@ impl<'a> Delivered<'a> for ViewChange<'a> {
 
     ghost says = { view_change_says };
 
-    #[tactic(auto, unfolding(crate::specs::Reading::view_change_from))]
+    #[tactic(auto, using(crate::proofs::Exactness::view_changes_exact), unfolding(crate::specs::Reading::view_change_from))]
     fn read(bytes: &'a [u8]) -> Option<(ViewChange<'a>, &'a [u8])> {
         let rest = behind_type(bytes, VIEW_CHANGE)?;
         let (sender, rest) = u32::read(rest)?;

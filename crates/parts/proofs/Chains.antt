@@ -18,7 +18,7 @@ pub typed :
 typed type small {Y} {fits} {write} {read} exact =
     fits_like
     (then_exact (types_exact type small) {Y = Y} (λ y. type) {others = fits} {write_others = write} {next = λ _ rest. read rest}
-     (λ x e. fits_like exact (λ y. (type ≡ x) × fits y) (λ y f. (sym e, f)) (λ y f. f.1)))
+    (λ x e. fits_like exact (λ y. (type ≡ x) × fits y) (λ y f. (sym e, f)) (λ y f. f.1)))
     fits (λ y f. f.1) (λ y f. (refl, f))
 
 module _ {X : Type 0} {fits : X → Type 0} {write : X → List ℕ} {read : List ℕ → Option (X × List ℕ)} (exact : Exact fits write read) {Y : Type 0} {K : Type 0} (known : Y → K) (field : Y → X) (k : K) where
@@ -30,7 +30,7 @@ module _ {X : Type 0} {fits : X → Type 0} {write : X → List ℕ} {read : Lis
   next_field {others} {write_others} {next} each =
       fits_like
       (then_exact exact field {others = λ y. (known y ≡ k) × others y}
-       (λ x f. fits_like (each x f) (λ y. (field y ≡ x) × ((known y ≡ k) × others y)) (λ y g. (ap (λ p. p.1) g.0, (ap (λ p. p.0) g.0, g.1))) (λ y g. (ap (λ a. (a, field y)) g.1.0 ∙ ap (λ b. (k, b)) g.0, g.1.1))))
+      (λ x f. fits_like (each x f) (λ y. (field y ≡ x) × ((known y ≡ k) × others y)) (λ y g. (ap (λ p. p.1) g.0, (ap (λ p. p.0) g.0, g.1))) (λ y g. (ap (λ a. (a, field y)) g.1.0 ∙ ap (λ b. (k, b)) g.0, g.1.1))))
       (λ y. (known y ≡ k) × (fits (field y) × others y)) (λ y f. (f.1.0, (f.0, f.1.1))) (λ y f. (f.1.0, (f.0, f.1.1)))
 
   -- the last field, with which the record is whole

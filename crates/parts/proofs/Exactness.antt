@@ -17,11 +17,11 @@ unfolding encode_request request_from
 requests_exact =
     fits_like
     (then_exact ints_exact {Y = Request} (λ r. r.client) (λ client _.
-     next_field ints_exact (λ r. r.client) (λ r. r.sequence) client (λ sequence _.
-     next_field ints_exact (λ r. (r.client, r.sequence)) (λ r. r.code) (client, sequence) (λ code _.
-     next_field ints_exact (λ r. ((r.client, r.sequence), r.code)) (λ r. r.key) ((client, sequence), code) (λ key _.
-     last_field ints_exact (λ r. (((r.client, r.sequence), r.code), r.key)) (λ r. r.value) (((client, sequence), code), key)
-      (λ k value. record { client = k.0.0.0; sequence = k.0.0.1; code = k.0.1; key = k.1; value = value }) (λ r. refl) (λ _. refl) (λ _. refl))))))
+    next_field ints_exact (λ r. r.client) (λ r. r.sequence) client (λ sequence _.
+    next_field ints_exact (λ r. (r.client, r.sequence)) (λ r. r.code) (client, sequence) (λ code _.
+    next_field ints_exact (λ r. ((r.client, r.sequence), r.code)) (λ r. r.key) ((client, sequence), code) (λ key _.
+    last_field ints_exact (λ r. (((r.client, r.sequence), r.code), r.key)) (λ r. r.value) (((client, sequence), code), key)
+    (λ k value. record { client = k.0.0.0; sequence = k.0.0.1; code = k.0.1; key = k.1; value = value }) (λ r. refl) (λ _. refl) (λ _. refl))))))
     RequestFits (λ r f. (f.0, f.1.0, f.1.1.0, f.1.1.1.0, f.1.1.1.1)) (λ r f. (f.0, (f.1, (f.2, (f.3, f.4)))))
 
 pub prepares_exact : Exact PrepareFits encode_prepare prepare_from
@@ -30,10 +30,10 @@ prepares_exact =
     fits_like
     (typed prepare_type (omega arith)
     (then_exact ints_exact {Y = Prepare} (λ p. p.view) (λ view _.
-     next_field ints_exact (λ p. p.view) (λ p. p.order) view (λ order _.
-     next_field requests_exact (λ p. (p.view, p.order)) (λ p. p.request) (view, order) (λ request _.
-     last_field (opaques_exact tag_bytes) (λ p. ((p.view, p.order), p.request)) (λ p. p.tag) ((view, order), request)
-      (λ k tag. record { view = k.0.0; order = k.0.1; request = k.1; tag = tag }) (λ p. refl) (λ _. refl) (λ _. refl))))))
+    next_field ints_exact (λ p. p.view) (λ p. p.order) view (λ order _.
+    next_field requests_exact (λ p. (p.view, p.order)) (λ p. p.request) (view, order) (λ request _.
+    last_field (opaques_exact tag_bytes) (λ p. ((p.view, p.order), p.request)) (λ p. p.tag) ((view, order), request)
+    (λ k tag. record { view = k.0.0; order = k.0.1; request = k.1; tag = tag }) (λ p. refl) (λ _. refl) (λ _. refl))))))
     PrepareFits (λ p f. (f.0, f.1.0, f.1.1.0, f.1.1.1)) (λ p f. (f.0, (f.1, (f.2, f.3))))
 
 pub commits_exact : Exact CommitFits encode_commit commit_from
@@ -42,11 +42,11 @@ commits_exact =
     fits_like
     (typed commit_type (omega arith)
     (then_exact ints_exact {Y = Commit} (λ c. c.sender) (λ sender _.
-     next_field ints_exact (λ c. c.sender) (λ c. c.view) sender (λ view _.
-     next_field ints_exact (λ c. (c.sender, c.view)) (λ c. c.order) (sender, view) (λ order _.
-     next_field requests_exact (λ c. ((c.sender, c.view), c.order)) (λ c. c.request) ((sender, view), order) (λ request _.
-     last_field (opaques_exact tag_bytes) (λ c. (((c.sender, c.view), c.order), c.request)) (λ c. c.tag) (((sender, view), order), request)
-      (λ k tag. record { sender = k.0.0.0; view = k.0.0.1; order = k.0.1; request = k.1; tag = tag }) (λ c. refl) (λ _. refl) (λ _. refl)))))))
+    next_field ints_exact (λ c. c.sender) (λ c. c.view) sender (λ view _.
+    next_field ints_exact (λ c. (c.sender, c.view)) (λ c. c.order) (sender, view) (λ order _.
+    next_field requests_exact (λ c. ((c.sender, c.view), c.order)) (λ c. c.request) ((sender, view), order) (λ request _.
+    last_field (opaques_exact tag_bytes) (λ c. (((c.sender, c.view), c.order), c.request)) (λ c. c.tag) (((sender, view), order), request)
+    (λ k tag. record { sender = k.0.0.0; view = k.0.0.1; order = k.0.1; request = k.1; tag = tag }) (λ c. refl) (λ _. refl) (λ _. refl)))))))
     CommitFits (λ c f. (f.0, f.1.0, f.1.1.0, f.1.1.1.0, f.1.1.1.1)) (λ c f. (f.0, (f.1, (f.2, (f.3, f.4)))))
 
 pub checkpoints_exact : Exact CheckpointFits encode_checkpoint checkpoint_from
@@ -55,8 +55,8 @@ checkpoints_exact =
     fits_like
     (typed checkpoint_type (omega arith)
     (then_exact ints_exact {Y = Checkpoint} (λ c. c.sender) (λ sender _.
-     next_field ints_exact (λ c. c.sender) (λ c. c.order) sender (λ order _.
-     next_field (opaques_exact digest_bytes) (λ c. (c.sender, c.order)) (λ c. c.digest) (sender, order) (λ digest _.
-     last_field (opaques_exact tag_bytes) (λ c. ((c.sender, c.order), c.digest)) (λ c. c.tag) ((sender, order), digest)
-      (λ k tag. record { sender = k.0.0; order = k.0.1; digest = k.1; tag = tag }) (λ c. refl) (λ _. refl) (λ _. refl))))))
+    next_field ints_exact (λ c. c.sender) (λ c. c.order) sender (λ order _.
+    next_field (opaques_exact digest_bytes) (λ c. (c.sender, c.order)) (λ c. c.digest) (sender, order) (λ digest _.
+    last_field (opaques_exact tag_bytes) (λ c. ((c.sender, c.order), c.digest)) (λ c. c.tag) ((sender, order), digest)
+    (λ k tag. record { sender = k.0.0; order = k.0.1; digest = k.1; tag = tag }) (λ c. refl) (λ _. refl) (λ _. refl))))))
     CheckpointFits (λ c f. (f.0, f.1.0, f.1.1.0, f.1.1.1)) (λ c f. (f.0, (f.1, (f.2, f.3))))

@@ -1,11 +1,12 @@
 -- What was read stands in front of what was left, and its tag stands at its end.
 use Rattle.std.proofs.lemmas.List.{take_at}
-use Rattle.std.proofs.Common.{◌≡◌, ℕ, ◌-◌, ◌<◌, List, ◌++◌, length, get_or, take, Some, Option, refl, ap, ◌∙◌, arith, length-append}
+use Rattle.std.proofs.Common.{◌≡◌, ℕ, ◌-◌, ◌<◌, List, length, get_or, take, Some, Option, refl, ap, ◌∙◌, arith, length-append}
 use Rattle.terms.specs.Numbers.{tag_bytes}
 use Rattle.xdr.specs.Laws.{Exact}
 use Rattle.xdr.proofs.Exactness.{bytes_from_places}
 use Rattle.parts.specs.Messages.{Prepare, Commit, Checkpoint}
-use Rattle.parts.specs.Encoding.{Tagged, untagged_prepare, untagged_commit, untagged_checkpoint}
+use Rattle.parts.specs.Encoding.{Tagged}
+use Rattle.parts.specs.Fits.{PrepareStands, CommitStands, CheckpointStands}
 use Rattle.parts.specs.Reading.{prepare_from, commit_from, checkpoint_from}
 use Rattle.parts.proofs.Exactness.{prepares_exact, commits_exact, checkpoints_exact}
 
@@ -22,11 +23,11 @@ module _ (part bytes rest : List ℕ) (is : part ≡ take (length bytes - length
       let long : length bytes - length rest ≡ length (write x) = omega (arith, ap length only.0, length-append (write x) rest) in
       (is ∙ rw (long, only.0) (take_at (write x) rest (length (write x)) refl), only.1)
 
-  pub prepare_front : (p : Prepare) → prepare_from bytes ≡ Some (p, rest) → Tagged part (untagged_prepare p) p.tag
-  prepare_front p e = let f = front prepares_exact p e in (f.0, f.1.3)
+  pub prepare_front : (p : Prepare) → prepare_from bytes ≡ Some (p, rest) → PrepareStands part p
+  prepare_front p e = let f = front prepares_exact p e in ((f.0, f.1.3), f.1)
 
-  pub commit_front : (c : Commit) → commit_from bytes ≡ Some (c, rest) → Tagged part (untagged_commit c) c.tag
-  commit_front c e = let f = front commits_exact c e in (f.0, f.1.4)
+  pub commit_front : (c : Commit) → commit_from bytes ≡ Some (c, rest) → CommitStands part c
+  commit_front c e = let f = front commits_exact c e in ((f.0, f.1.4), f.1)
 
-  pub checkpoint_front : (c : Checkpoint) → checkpoint_from bytes ≡ Some (c, rest) → Tagged part (untagged_checkpoint c) c.tag
-  checkpoint_front c e = let f = front checkpoints_exact c e in (f.0, f.1.3)
+  pub checkpoint_front : (c : Checkpoint) → checkpoint_from bytes ≡ Some (c, rest) → CheckpointStands part c
+  checkpoint_front c e = let f = front checkpoints_exact c e in ((f.0, f.1.3), f.1)

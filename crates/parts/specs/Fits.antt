@@ -1,7 +1,8 @@
 -- Requests, PREPAREs, COMMITs and CHECKPOINTs whose numbers and tags have their widths.
-use Rattle.std.specs.Prelude.{◌≡◌, ℕ, ◌^◌, ◌<◌, length}
+use Rattle.std.specs.Prelude.{◌≡◌, ℕ, ◌^◌, ◌<◌, List, length}
 use Rattle.terms.specs.Numbers.{digest_bytes, tag_bytes}
 use Rattle.terms.specs.declared.requests.Request.{Request}
+use Rattle.parts.specs.Encoding.{Tagged, untagged_prepare, untagged_commit, untagged_checkpoint}
 use Rattle.parts.specs.Messages.{Prepare, Commit, Checkpoint}
 
 -- numbers of 32 bits
@@ -19,3 +20,13 @@ CommitFits c = Int c.sender × Int c.view × Int c.order × RequestFits c.reques
 
 abbrev pub CheckpointFits : Checkpoint → Type 0
 CheckpointFits c = Int c.sender × Int c.order × (length c.digest ≡ digest_bytes) × (length c.tag ≡ tag_bytes)
+
+-- bytes are those of a message that fits
+abbrev pub PrepareStands : List ℕ → Prepare → Type 0
+PrepareStands bytes p = Tagged bytes (untagged_prepare p) p.tag × PrepareFits p
+
+abbrev pub CommitStands : List ℕ → Commit → Type 0
+CommitStands bytes c = Tagged bytes (untagged_commit c) c.tag × CommitFits c
+
+abbrev pub CheckpointStands : List ℕ → Checkpoint → Type 0
+CheckpointStands bytes c = Tagged bytes (untagged_checkpoint c) c.tag × CheckpointFits c

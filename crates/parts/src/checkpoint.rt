@@ -28,17 +28,20 @@ impl<'a> Model for Checkpoint<'a> {
 
     ghost Value = { Checkpoint };
 
-    ghost use Rattle.parts.specs.Encoding.{Tagged, untagged_checkpoint};
+    ghost use Rattle.parts.specs.Fits.{CheckpointStands};
 
     ghost view = { λ c. record { sender = c.sender; order = c.order.0; digest = c.digest.now; tag = c.tag.now } };
 
-    ghost invariant = { λ c. Tagged c.bytes.now (untagged_checkpoint (record { sender = c.sender; order = c.order.0; digest = c.digest.now; tag = c.tag.now })) c.tag.now };
+    ghost invariant = { λ c. CheckpointStands c.bytes.now (record { sender = c.sender; order = c.order.0; digest = c.digest.now; tag = c.tag.now }) };
 }
 
 impl<'a> Delivered<'a> for Checkpoint<'a> {
     ghost use Rattle.parts.specs.Encoding.{encode_checkpoint};
+    ghost use Rattle.parts.specs.Fits.{CheckpointFits};
     ghost use Rattle.parts.specs.Reading.{checkpoint_from};
     ghost use Rattle.parts.specs.Statements.{checkpoint_says};
+
+    ghost fits = { CheckpointFits };
 
     ghost layout = { encode_checkpoint };
 
@@ -46,7 +49,7 @@ impl<'a> Delivered<'a> for Checkpoint<'a> {
 
     ghost says = { checkpoint_says };
 
-    #[tactic(auto, unfolding(crate::specs::Reading::checkpoint_from))]
+    #[tactic(auto, using(crate::proofs::Exactness::checkpoints_exact), unfolding(crate::specs::Reading::checkpoint_from))]
     fn read(bytes: &'a [u8]) -> Option<(Checkpoint<'a>, &'a [u8])> {
         let rest = behind_type(bytes, CHECKPOINT)?;
         let (sender, rest) = u32::read(rest)?;

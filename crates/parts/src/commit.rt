@@ -22,17 +22,20 @@ impl<'a> Model for Commit<'a> {
 
     ghost Value = { Commit };
 
-    ghost use Rattle.parts.specs.Encoding.{Tagged, untagged_commit};
+    ghost use Rattle.parts.specs.Fits.{CommitStands};
 
     ghost view = { λ c. record { sender = c.sender; view = c.view.0; order = c.order.0; request = c.request; tag = c.tag.now } };
 
-    ghost invariant = { λ c. Tagged c.bytes.now (untagged_commit (record { sender = c.sender; view = c.view.0; order = c.order.0; request = c.request; tag = c.tag.now })) c.tag.now };
+    ghost invariant = { λ c. CommitStands c.bytes.now (record { sender = c.sender; view = c.view.0; order = c.order.0; request = c.request; tag = c.tag.now }) };
 }
 
 impl<'a> Delivered<'a> for Commit<'a> {
     ghost use Rattle.parts.specs.Encoding.{encode_commit};
+    ghost use Rattle.parts.specs.Fits.{CommitFits};
     ghost use Rattle.parts.specs.Reading.{commit_from};
     ghost use Rattle.parts.specs.Statements.{commit_says};
+
+    ghost fits = { CommitFits };
 
     ghost layout = { encode_commit };
 
@@ -40,7 +43,7 @@ impl<'a> Delivered<'a> for Commit<'a> {
 
     ghost says = { commit_says };
 
-    #[tactic(auto, unfolding(crate::specs::Reading::commit_from))]
+    #[tactic(auto, using(crate::proofs::Exactness::commits_exact), unfolding(crate::specs::Reading::commit_from))]
     fn read(bytes: &'a [u8]) -> Option<(Commit<'a>, &'a [u8])> {
         let rest = behind_type(bytes, COMMIT)?;
         let (sender, rest) = u32::read(rest)?;

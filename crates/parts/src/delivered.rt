@@ -3,6 +3,7 @@ ghost use Rattle.std.specs.Prelude.{◌≡◌, ◌-◌, ℕ, List, Option, lengt
 ghost use Rattle.std.specs.Option.{option_map};
 ghost use Rattle.terms.specs.Numbers.{tag_bytes};
 ghost use Rattle.counter.specs.Statements.{Stated, stated};
+ghost use Rattle.xdr.specs.Laws.{Exact};
 ghost use Rattle.xdr.specs.Reading.{value_and_rest};
 ghost use Rattle.parts.specs.Reading.{whole};
 
@@ -11,7 +12,10 @@ use terms::{GroupSize, TAG_BYTES};
 
 /// A message of one kind. It is still a part of the bytes in which it was delivered.
 pub trait Delivered<'a>: Sized + Drop {
-    /// The message's bytes.
+    /// The messages within the limits.
+    ghost fits: { Self → Type 0 };
+
+    /// The bytes of a message.
     ghost layout: { Self → List ℕ };
 
     /// The message that begins a list of bytes, with the bytes behind it.
@@ -21,12 +25,15 @@ pub trait Delivered<'a>: Sized + Drop {
     ghost says: { ℕ → Self → Stated };
 
     /// Reads a message from the front of bytes, or answers None where none of its kind stands there.
+    /// The bytes are the only writing of the message that they read as.
     fn read(bytes: &'a [u8]) -> Option<(Self, &'a [u8])>
-        ensures { option_map value_and_rest result ≡ from bytes.now };
+        ensures value { option_map value_and_rest result ≡ from bytes.now }
+        ensures exact { Exact fits layout from };
 
-    /// The bytes of the whole message.
+    /// The bytes of the whole message, which is within the limits.
     fn bytes(&self) -> &'a [u8]
-        ensures { result.now ≡ layout self.now };
+        ensures value { result.now ≡ layout self.now }
+        ensures fits { fits self.now };
 
     /// The statement for which the message is tagged in a group. Its message is a part of the delivered bytes, too.
     fn statement(&self, group: GroupSize) -> Statement<'a>

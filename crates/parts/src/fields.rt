@@ -16,9 +16,13 @@ pub const VIEW_COUNTER: u32 = 2;
 
 // The types of messages.
 pub const PREPARE: u32 = 1;
+
 pub const COMMIT: u32 = 2;
+
 pub const CHECKPOINT: u32 = 3;
+
 pub const VIEW_CHANGE: u32 = 4;
+
 pub const NEW_VIEW: u32 = 5;
 
 // The bytes behind a type, where they begin with this one.

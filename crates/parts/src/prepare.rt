@@ -28,17 +28,20 @@ impl<'a> Model for Prepare<'a> {
 
     ghost Value = { Prepare };
 
-    ghost use Rattle.parts.specs.Encoding.{Tagged, untagged_prepare};
+    ghost use Rattle.parts.specs.Fits.{PrepareStands};
 
     ghost view = { λ p. record { view = p.view.0; order = p.order.0; request = p.request; tag = p.tag.now } };
 
-    ghost invariant = { λ p. Tagged p.bytes.now (untagged_prepare (record { view = p.view.0; order = p.order.0; request = p.request; tag = p.tag.now })) p.tag.now };
+    ghost invariant = { λ p. PrepareStands p.bytes.now (record { view = p.view.0; order = p.order.0; request = p.request; tag = p.tag.now }) };
 }
 
 impl<'a> Delivered<'a> for Prepare<'a> {
     ghost use Rattle.parts.specs.Encoding.{encode_prepare};
+    ghost use Rattle.parts.specs.Fits.{PrepareFits};
     ghost use Rattle.parts.specs.Reading.{prepare_from};
     ghost use Rattle.parts.specs.Statements.{prepare_says};
+
+    ghost fits = { PrepareFits };
 
     ghost layout = { encode_prepare };
 
@@ -46,7 +49,7 @@ impl<'a> Delivered<'a> for Prepare<'a> {
 
     ghost says = { prepare_says };
 
-    #[tactic(auto, unfolding(crate::specs::Reading::prepare_from))]
+    #[tactic(auto, using(crate::proofs::Exactness::prepares_exact), unfolding(crate::specs::Reading::prepare_from))]
     fn read(bytes: &'a [u8]) -> Option<(Prepare<'a>, &'a [u8])> {
         let rest = behind_type(bytes, PREPARE)?;
         let (view, rest) = u32::read(rest)?;

@@ -11,10 +11,10 @@ loop-init g c = none_read g.M.Delivered.from c.in_ok-count.bytes.now
 pub returns-in_err-behind-clause-value : goal.returns-in_err-behind-clause-value
 returns-in_err-behind-clause-value g c =
     ap (option_map (listed_and_rest g.M.Delivered.from)) c.from_residual-in_err-behind.ensures
-    ∙ list_stops g.M.Delivered.from c.args.most c.loop.counter c.in_ok-count.count c.args.bytes.now c.in_ok-count.bytes.now c.loop.rest.now c.in_ok-count.ensures.value c.loop-test.true c.loop.invariant c.in_err-behind.ensures
+    ∙ list_stops g.M.Delivered.from c.args.most c.loop.counter c.in_ok-count.count c.args.bytes.now c.in_ok-count.bytes.now c.loop.rest.now c.in_ok-count.ensures.value c.loop-test.true c.loop.invariant c.in_err-behind.ensures.value
 
 pub loop-preserved : goal.loop-preserved
-loop-preserved g c = one_more g.M.Delivered.from c.loop.counter c.in_ok-count.bytes.now c.loop.rest.now _ c.in_ok-behind.behind.now c.loop.invariant c.in_ok-behind.ensures
+loop-preserved g c = one_more g.M.Delivered.from c.loop.counter c.in_ok-count.bytes.now c.loop.rest.now _ c.in_ok-behind.behind.now c.loop.invariant c.in_ok-behind.ensures.value
 
 pub returns-clause-all : goal.returns-clause-all
 returns-clause-all g c = count_kept g.M.Delivered.from c.loop.counter c.in_ok-count.count c.in_ok-count.bytes.now c.loop.rest.now (omega (arith, c.loop-test.false)) (omega (arith, c.loop.auto.counter-end)) c.loop.invariant
