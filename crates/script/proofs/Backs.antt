@@ -9,7 +9,7 @@ use Rattle.texts.specs.Numerals.{number_of}
 use Rattle.script.specs.Words.{spelt}
 use Rattle.script.proofs.Written.{decimal_is_word, numbers_are_words, hex_is_word}
 use Rattle.script.specs.declared.entries.Entry.TheVariants.{Apply}
-use Rattle.script.specs.declared.headers.Header.TheVariants.{Register, Counter}
+use Rattle.script.specs.declared.headers.Header.TheVariants.{Register, Counter, Mail}
 use Rattle.script.specs.declared.keys.Key.{Key}
 use Rattle.script.specs.declared.keys.Key.TheVariants.{Hmac, Cmac}
 use Rattle.script.specs.declared.headers.RegisterKind.TheVariants.{Glyphs, Release}
@@ -46,6 +46,7 @@ headers_read_back (Register (Sessions Release)) fits = refl
 headers_read_back (Counter counter) fits =
     ap header_of (words_cut_back 32 (header_words (Counter counter)) refl (counter_is_word, (decimal_is_word counter.seats (omega (arith, fits.0)), (decimal_is_word counter.seat (omega (arith, fits.1)), key_is_words counter.key fits.2))))
     ∙ counter_read _ _ counter.key fits.2 (decimals_read counter.seats fits.0) (decimals_read counter.seat fits.1)
+headers_read_back Mail fits = refl
 
 -- five words that are numbers
 request_read : (u v w x y : List ℕ) {client sequence code key value : ℕ} → number_of u ≡ Some client → number_of v ≡ Some sequence → number_of w ≡ Some code → number_of x ≡ Some key → number_of y ≡ Some value → entry_of (codes "apply" ∷ u ∷ v ∷ w ∷ x ∷ y ∷ []) ≡ Ok (Some (Apply (record { client = client; sequence = sequence; code = code; key = key; value = value })))

@@ -1,40 +1,18 @@
 -- What is written of a counter reads as itself.
-use Rattle.std.proofs.Common.{◌≡◌, ℕ, ◌/◌, ◌<◌, List, [], ◌∷◌, codes, nat_eq, Some, Ok, false, decimal, refl, ap, ◌∙◌, arith}
-use Rattle.std.proofs.lemmas.Bool.Decides.{nat_tests}
-use Rattle.std.specs.Char.{digit_char}
+use Rattle.std.proofs.Common.{◌≡◌, ℕ, ◌<◌, List, [], ◌∷◌, codes, Some, Ok, decimal, refl, ap, ◌∙◌, arith}
 use Rattle.counter.specs.declared.kinds.Kind.{Kind}
 use Rattle.counter.specs.declared.kinds.Kind.TheVariants.{Continuing, Independent}
 use Rattle.texts.proofs.Digits.{decimals_read, long_decimals_read}
-use Rattle.texts.proofs.Pairs.{hexes_read}
 use Rattle.texts.proofs.Pieces.{words_cut_back}
 use Rattle.texts.specs.Cutting.{IsWord}
-use Rattle.texts.specs.Hexes.{hex_of}
 use Rattle.texts.specs.Numerals.{number_of, long_of}
-use Rattle.script.proofs.Spelling.{spelt_by_bytes}
-use Rattle.script.proofs.Written.{decimal_is_word, hex_is_word}
-use Rattle.script.specs.Bytes.{bytes_named, bytes_word, BytesFit}
+use Rattle.script.proofs.BytesBacks.{bytes_is_word, bytes_read}
+use Rattle.script.proofs.Written.{decimal_is_word}
+use Rattle.script.specs.Bytes.{bytes_named}
 use Rattle.script.specs.CounterEntries.{kind_word, counter_entry_of, certify_of, value_of, claim_of, entry_words, CounterEntriesReadBack}
 use Rattle.script.specs.Words.{spelt}
 use Rattle.script.specs.declared.bytes.Bytes.{Bytes}
-use Rattle.script.specs.declared.bytes.Bytes.TheVariants.{Here, Line}
 use Rattle.script.specs.declared.counter_entries.CounterEntry.TheVariants.{Certify, Value, Check}
-
--- bytes that are written
-bytes_is_word : (bytes : Bytes) → BytesFit bytes → IsWord (bytes_word bytes)
-bytes_is_word (Here []) fit = (omega arith, (refl, tt))
-bytes_is_word (Here (byte ∷ bytes)) fit = hex_is_word (byte ∷ bytes) (omega arith) fit
-bytes_is_word (Line line) fit = (omega arith, (refl, (decimal_is_word line (omega arith)).1))
-
-first_digit : (byte : ℕ) → byte < 256 → (nat_eq (digit_char (byte / 16)) 64 ≡ false) × (nat_eq (digit_char (byte / 16)) 45 ≡ false)
-first_digit byte small = (grind (arith, nat_tests), grind (arith, nat_tests))
-
-bytes_read : (bytes : Bytes) → BytesFit bytes → bytes_named (bytes_word bytes) ≡ Some bytes
-bytes_read (Here []) fit = simp (spelt_by_bytes (codes "-") (codes "-"))
-bytes_read (Here (byte ∷ bytes)) fit =
-    let first = first_digit byte (fit 0) in
-    let solid : spelt (codes "-") (hex_of (byte ∷ bytes)) ≡ false = spelt_by_bytes (codes "-") (hex_of (byte ∷ bytes)) ∙ grind (arith, nat_tests, first.1) in
-    simp (first.0, solid, hexes_read (byte ∷ bytes) fit)
-bytes_read (Line line) fit = simp (decimals_read line fit)
 
 -- a kind, two numbers and bytes
 certify_read : (kind : Kind) (u v w : List ℕ) {number value : ℕ} {message : Bytes} → number_of u ≡ Some number → long_of v ≡ Some value → bytes_named w ≡ Some message → counter_entry_of (codes "certify" ∷ kind_word kind ∷ u ∷ v ∷ w ∷ []) ≡ Ok (Some (Certify (record { kind = kind; number = number; value = value; message = message })))

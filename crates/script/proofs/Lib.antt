@@ -1,5 +1,7 @@
 -- The lemmas that the answers share.
 pub mod Backs
+pub mod BytesBacks
 pub mod CounterBacks
+pub mod MailBacks
 pub mod Written
 pub mod Spelling

@@ -11,7 +11,7 @@ use Rattle.script.specs.declared.faults.Expected.TheVariants.{Header as NoHeader
 use Rattle.script.specs.declared.faults.Fault.{Fault}
 use Rattle.script.specs.declared.headers.CounterHeader.{CounterHeader}
 use Rattle.script.specs.declared.headers.Header.{Header}
-use Rattle.script.specs.declared.headers.Header.TheVariants.{Register, Counter}
+use Rattle.script.specs.declared.headers.Header.TheVariants.{Register, Counter, Mail}
 use Rattle.script.specs.declared.headers.RegisterKind.{RegisterKind}
 use Rattle.script.specs.declared.headers.RegisterKind.TheVariants.{Glyphs, Release}
 use Rattle.script.specs.declared.headers.ServiceKind.{ServiceKind}
@@ -48,13 +48,14 @@ counter_of left =
     and_then (key_at left₂) (λ key.
     with_end (behind_first (behind_first left₂)) (record { seats = seats; seat = seat; key = key }))))
 
--- no words say nothing; `register SERVICE` names a service, and `counter N SEAT KIND KEY` a counter
+-- no words say nothing; `register SERVICE` names a service, `counter N SEAT KIND KEY` a counter; `mail` stands alone
 abbrev pub header_of : List (List ℕ) → Result (Option Header) Fault
 header_of [] = Ok None
 header_of (w ∷ ws) =
     if spelt (codes "register") w then and_then (service_of (record { place = 2; words = ws })) (λ service. Ok (Some (Register service)))
     else (if spelt (codes "counter") w then and_then (counter_of (record { place = 2; words = ws })) (λ counter. Ok (Some (Counter counter)))
-    else Err (fault_at 1 NoHeader))
+    else (if spelt (codes "mail") w then with_end (record { place = 2; words = ws }) (Some Mail)
+    else Err (fault_at 1 NoHeader)))
 
 -- a header as it is written: its words in order, with one space between them
 abbrev pub service_words : ServiceKind → List (List ℕ)
@@ -64,6 +65,7 @@ service_words (Sessions register) = codes "sessions" ∷ register_word register 
 abbrev pub header_words : Header → List (List ℕ)
 header_words (Register service) = codes "register" ∷ service_words service
 header_words (Counter counter) = codes "counter" ∷ decimal counter.seats ∷ decimal counter.seat ∷ key_words counter.key
+header_words Mail = codes "mail" ∷ []
 
 abbrev pub written : Header → List ℕ
 written header = join_with_byte 32 (header_words header)
@@ -72,6 +74,7 @@ written header = join_with_byte 32 (header_words header)
 abbrev pub HeaderFits : Header → Type 0
 HeaderFits (Register service) = Unit
 HeaderFits (Counter counter) = (counter.seats < number_bound) × (counter.seat < number_bound) × KeyFits counter.key
+HeaderFits Mail = Unit
 
 -- a header that is written reads as itself
 abbrev pub HeadersReadBack : Type 0

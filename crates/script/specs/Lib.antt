@@ -4,5 +4,6 @@ pub mod CounterEntries
 pub mod Entries
 pub mod Headers
 pub mod Keys
+pub mod MailEntries
 pub mod Tallies
 pub mod Words

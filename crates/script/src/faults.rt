@@ -4,7 +4,7 @@ use thiserror::Error;
 /// What a word should be. It is shown as the end of a sentence about the word.
 #[derive(Clone, Copy, PartialEq, Eq, Debug, Error)]
 pub enum Expected {
-    #[error("should be \"register SERVICE\" or \"counter N SEAT KIND KEY\"")]
+    #[error("should be \"register SERVICE\", \"counter N SEAT KIND KEY\" or \"mail\"")]
     Header,
     #[error("should be a service: glyphs, release, sessions glyphs or sessions release")]
     Service,
@@ -24,6 +24,9 @@ pub enum Expected {
     /// An entry for a counter.
     #[error("should be \"certify KIND NUMBER VALUE BYTES\", \"value NUMBER\" or \"check KIND SEAT NUMBER NEW OLD BYTES TAG\"")]
     CounterEntry,
+    /// An entry for mail.
+    #[error("should be \"read BYTES\"")]
+    MailEntry,
     /// A kind of certificates.
     #[error("should be a kind of certificates: continuing or independent")]
     Kind,

@@ -35,6 +35,7 @@ pub struct CounterHeader {
 pub enum Header {
     Register(ServiceKind),
     Counter(CounterHeader),
+    Mail,
 }
 
 impl fmt::Display for RegisterKind {
@@ -72,6 +73,7 @@ pub fn read_header(line: &[u8]) -> Result<Option<Header>, Fault>
         Some(word) if word == b"counter".as_slice() => {
             Ok(Some(Header::Counter(read_counter(&mut words)?)))
         }
+        Some(word) if word == b"mail".as_slice() => words.end_with(Some(Header::Mail)),
         Some(_) => Err(fault),
     }
 }

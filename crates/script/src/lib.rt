@@ -7,6 +7,7 @@ mod entries;
 mod faults;
 mod headers;
 mod keys;
+mod mail_entries;
 mod tallies;
 mod words;
 
@@ -16,4 +17,5 @@ pub use entries::{Entry, read_entry};
 pub use faults::{Expected, Fault};
 pub use headers::{CounterHeader, Header, RegisterKind, ServiceKind, read_header};
 pub use keys::Key;
+pub use mail_entries::{MailEntry, read_mail_entry};
 pub use tallies::{Tally, YesNo};
