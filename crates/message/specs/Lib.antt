@@ -2,6 +2,7 @@
 pub mod Decoding
 pub mod Encoding
 pub mod Fits
+pub mod Laws
 pub mod Messages
 pub mod Reading
 pub mod Statements

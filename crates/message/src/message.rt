@@ -4,6 +4,7 @@ ghost use Rattle.std.specs.Option.{ok_or};
 ghost use Rattle.counter.specs.Statements.{stated};
 ghost use Rattle.terms.specs.declared.refusals.Refusal.TheVariants.{NoMessage};
 ghost use Rattle.message.specs.Decoding.{decode, encode, type_number, says, tag_of};
+ghost use Rattle.message.specs.Laws.{MessageFits, MessagesExact, MessageSizes};
 
 use super::new_view::NewView;
 use super::view_change::ViewChange;
@@ -25,9 +26,11 @@ pub enum Message<'a> {
 }
 
 impl<'a> Message<'a> {
-    /// The message that bytes are, or refusal 5.
+    /// The message that bytes are, or refusal 5. Bytes are a message exactly if they are its encoding.
+    #[tactic(auto, using(crate::proofs::Decoding::messages_exact))]
     pub fn read(bytes: &'a [u8]) -> Result<Message<'a>, Refusal>
         ensures value { result ≡ ok_or (decode bytes.now) NoMessage }
+        ensures exact { MessagesExact }
     {
         read_by_type(bytes).ok_or(Refusal::NoMessage)
     }
@@ -45,9 +48,12 @@ impl<'a> Message<'a> {
         }
     }
 
-    /// The bytes of the whole message.
+    /// The bytes of the whole message. How many they are follows from what the message holds.
+    #[tactic(auto, using(crate::proofs::Sizes::message_sizes))]
     pub fn bytes(&self) -> &'a [u8]
-        ensures { result.now ≡ encode self.now }
+        ensures value { result.now ≡ encode self.now }
+        ensures fits { MessageFits self.now }
+        ensures sizes { MessageSizes }
     {
         match self {
             Message::Prepare(prepare) => prepare.bytes(),
