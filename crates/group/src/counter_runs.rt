@@ -1,10 +1,10 @@
 // Playing calls on a trusted counter: the header makes it, and each entry is a call.
+use super::named::bytes_of;
 use super::records::{Refused, close_counter};
 use super::stops::Stop;
 use counter::{Counter, Seat, Statement};
 use counters::{CmacCounter, HmacCounter};
-use script::{Bytes, Certify, Claim, CounterEntry, CounterHeader, Key, YesNo, read_counter_entry};
-use std::alloc::Global;
+use script::{Certify, Claim, CounterEntry, CounterHeader, Key, YesNo, read_counter_entry};
 use texts::{Hex, Lines};
 
 /// Plays the entries behind a header on the counter that it asks for. A header that is refused ends the run.
@@ -105,12 +105,4 @@ fn check<C: Counter>(
     let right = counter.check(statement, &tag);
     println!(rt; "{number} check {}", if right { "yes" } else { "no" })?;
     Ok(right)
-}
-
-// The bytes that an entry names. A counter's entries write none that another could name.
-fn bytes_of(heap: Global, number: u64, bytes: Bytes) -> Result<Vec<u8>, Stop> {
-    match bytes {
-        Bytes::Here(word) => Ok(word.bytes(heap)?),
-        Bytes::Line(line) => Err(Stop::NothingWritten(number, line)),
-    }
 }

@@ -3,6 +3,9 @@
 
 mod counter_runs;
 mod inputs;
+mod mail_runs;
+mod messages;
+mod named;
 mod plays;
 mod records;
 mod register_runs;

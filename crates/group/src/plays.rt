@@ -1,5 +1,6 @@
 // Playing a script: its header says what is played.
 use super::counter_runs::play_counter;
+use super::mail_runs::play_mail;
 use super::register_runs::play_register;
 use super::stops::Stop;
 use script::{Header, read_header};
@@ -14,6 +15,7 @@ pub fn play(rt: &HostRuntime, script: &[u8]) -> Result<(), Stop> {
             None => {}
             Some(Header::Register(kind)) => return play_register(rt, number, kind, lines),
             Some(Header::Counter(counter)) => return play_counter(rt, number, counter, lines),
+            Some(Header::Mail) => return play_mail(rt, number, lines),
         }
     }
     Ok(())

@@ -85,3 +85,13 @@ pub fn close_counter<C: Counter>(
     }
     Ok(())
 }
+
+/// Prints how many bytes were messages and how many were none.
+pub fn close_mail(rt: &HostRuntime, messages: YesNo) -> Result<(), Stop> {
+    println!(rt;
+        "messages: {}, not messages: {}",
+        messages.yes(),
+        messages.no()
+    )?;
+    Ok(())
+}

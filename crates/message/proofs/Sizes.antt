@@ -1,5 +1,5 @@
 -- How many bytes messages have.
-use Rattle.std.proofs.Common.{◌≡◌, ℕ, ◌+◌, ◌*◌, ◌≤◌, List, [], ◌∷◌, ◌++◌, length, refl, ap, arith, length-append}
+use Rattle.std.proofs.Common.{◌≡◌, ◌+◌, ◌*◌, ◌≤◌, List, [], ◌∷◌, ◌++◌, length, refl, ap, arith, length-append}
 use Rattle.std.specs.List.{AllByRecursion, flat_map}
 use Rattle.terms.specs.Numbers.{prepare_bytes, commit_bytes, checkpoint_bytes, shortest_view_change, longest_view_change, shortest_new_view, longest_new_view}
 use Rattle.terms.specs.Quorums.{quorum_of}

@@ -1,7 +1,7 @@
 -- What messages and bytes owe one another.
 use Rattle.std.specs.Prelude.{◌≡◌, ℕ, ◌+◌, ◌*◌, ◌≤◌, List, [], length, Some}
 use Rattle.std.specs.List.{AllByRecursion, flat_map}
-use Rattle.terms.specs.Numbers.{largest_quorum, window, prepare_bytes, commit_bytes, checkpoint_bytes, shortest_view_change, longest_view_change, shortest_new_view, longest_new_view}
+use Rattle.terms.specs.Numbers.{prepare_bytes, commit_bytes, checkpoint_bytes, shortest_view_change, longest_view_change, shortest_new_view, longest_new_view}
 use Rattle.terms.specs.Quorums.{quorum_of}
 use Rattle.xdr.specs.Laws.{Bytes}
 use Rattle.parts.specs.Encoding.{encode_prepare, encode_commit, encode_checkpoint}

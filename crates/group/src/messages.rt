@@ -1,0 +1,150 @@
+// Messages in words: type, name, fields and tag on one line, and below it a line for each message that it holds.
+use super::stops::Stop;
+use message::{Checkpoint, Commit, Message, NewView, Prepare, Prepares, ViewChange};
+use std::fmt;
+use terms::Request;
+use texts::Hex;
+
+// How far the lines of messages in a message, and in one of those, are indented.
+const HELD: &str = "  ";
+
+const HELD_BELOW: &str = "    ";
+
+/// Prints a message behind what stands on the line already, and the messages that it holds on lines of their own.
+pub fn show_message(rt: &HostRuntime, message: &Message) -> Result<(), Stop> {
+    match message {
+        Message::Prepare(prepare) => show_prepare(rt, prepare),
+        Message::Commit(commit) => show_commit(rt, commit),
+        Message::Checkpoint(checkpoint) => show_checkpoint(rt, checkpoint),
+        Message::ViewChange(change) => show_view_change(rt, change, HELD),
+        Message::NewView(new_view) => show_new_view(rt, new_view),
+    }
+}
+
+// A request as its five numbers, with points between them.
+#[derive(Clone, Copy, PartialEq, Eq, Debug)]
+struct Dotted(Request);
+
+impl fmt::Display for Dotted {
+    fn fmt<W: fmt::Write>(&self, f: &mut fmt::Formatter<W>) -> fmt::Result {
+        let Request {
+            client,
+            sequence,
+            code,
+            key,
+            value,
+        } = self.0;
+        write!(f, "{client}.{sequence}.{code}.{key}.{value}")
+    }
+}
+
+fn show_prepare(rt: &HostRuntime, prepare: &Prepare) -> Result<(), Stop> {
+    let Prepare {
+        view,
+        order,
+        request,
+        tag,
+        ..
+    } = prepare;
+    println!(rt;
+        "1 PREPARE view {view} order {order} request {} tag {}",
+        Dotted(*request),
+        Hex(*tag)
+    )?;
+    Ok(())
+}
+
+fn show_commit(rt: &HostRuntime, commit: &Commit) -> Result<(), Stop> {
+    let Commit {
+        sender,
+        view,
+        order,
+        request,
+        tag,
+        ..
+    } = commit;
+    println!(rt;
+        "2 COMMIT sender {sender} view {view} order {order} request {} tag {}",
+        Dotted(*request),
+        Hex(*tag)
+    )?;
+    Ok(())
+}
+
+fn show_checkpoint(rt: &HostRuntime, checkpoint: &Checkpoint) -> Result<(), Stop> {
+    let Checkpoint {
+        sender,
+        order,
+        digest,
+        tag,
+        ..
+    } = checkpoint;
+    println!(rt;
+        "3 CHECKPOINT sender {sender} order {order} digest {} tag {}",
+        Hex(*digest),
+        Hex(*tag)
+    )?;
+    Ok(())
+}
+
+// Its CHECKPOINTs and PREPAREs stand on lines that are indented so far.
+fn show_view_change(rt: &HostRuntime, change: &ViewChange, indent: &str) -> Result<(), Stop> {
+    let ViewChange {
+        sender,
+        target,
+        previous,
+        from,
+        low,
+        proof,
+        entries,
+        tag,
+        ..
+    } = change;
+    print!(rt; "4 VIEW-CHANGE sender {sender} target {target} previous {previous} from {from} ")?;
+    println!(rt;
+        "low {low} proof {} entries {} tag {}",
+        proof.len(),
+        entries.len(),
+        Hex(*tag)
+    )?;
+    for i in 0..proof.len() {
+        if let Some(checkpoint) = proof.get(i) {
+            print!(rt; "{indent}")?;
+            show_checkpoint(rt, &checkpoint)?;
+        }
+    }
+    show_prepares(rt, entries, indent)
+}
+
+fn show_prepares(rt: &HostRuntime, prepares: &Prepares, indent: &str) -> Result<(), Stop> {
+    for i in 0..prepares.len() {
+        if let Some(prepare) = prepares.get(i) {
+            print!(rt; "{indent}")?;
+            show_prepare(rt, &prepare)?;
+        }
+    }
+    Ok(())
+}
+
+fn show_new_view(rt: &HostRuntime, new_view: &NewView) -> Result<(), Stop> {
+    let NewView {
+        view,
+        changes,
+        prepares,
+        tag,
+        ..
+    } = new_view;
+    println!(rt;
+        "5 NEW-VIEW view {view} changes {} prepares {} tag {}",
+        changes.len(),
+        prepares.len(),
+        Hex(*tag)
+    )?;
+    for i in 0..changes.len() {
+        if let Some(change) = changes.get(i) {
+            print!(rt; "{HELD}")?;
+            show_view_change(rt, &change, HELD_BELOW)?;
+        }
+    }
+    show_prepares(rt, prepares, HELD)
+}
