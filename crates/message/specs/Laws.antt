@@ -1,7 +1,7 @@
 -- What messages and bytes owe one another.
 use Rattle.std.specs.Prelude.{◌≡◌, ℕ, ◌+◌, ◌*◌, ◌≤◌, List, [], length, Some}
 use Rattle.std.specs.List.{AllByRecursion, flat_map}
-use Rattle.terms.specs.Numbers.{prepare_bytes, commit_bytes, checkpoint_bytes, shortest_view_change, longest_view_change, shortest_new_view, longest_new_view}
+use Rattle.terms.specs.Numbers.{largest_quorum, window, prepare_bytes, commit_bytes, checkpoint_bytes, shortest_view_change, longest_view_change, shortest_new_view, longest_new_view}
 use Rattle.terms.specs.Quorums.{quorum_of}
 use Rattle.xdr.specs.Laws.{Bytes}
 use Rattle.parts.specs.Encoding.{encode_prepare, encode_commit, encode_checkpoint}
@@ -35,6 +35,10 @@ pub record MessagesExact : Type 0 where
 abbrev pub Bare : Changed → Type 0
 Bare c = (c.proof ≡ []) × (c.entries ≡ [])
 
+-- a VIEW-CHANGE that holds all that it may
+abbrev pub Full : Changed → Type 0
+Full c = (length c.proof ≡ largest_quorum) × (length c.entries ≡ window)
+
 -- how many bytes messages have
 pub record MessageSizes : Type 0 where
   pub prepare : (p : Prepared) → PrepareFits p → length (encode_prepare p) ≡ prepare_bytes
@@ -43,8 +47,10 @@ pub record MessageSizes : Type 0 where
   -- each CHECKPOINT, VIEW-CHANGE and PREPARE that they hold adds its own
   pub view_change : (c : Changed) → ViewChangeFits c → length (encode_view_change c) ≡ shortest_view_change + checkpoint_bytes * length c.proof + prepare_bytes * length c.entries
   pub new_view : (n : Viewed) → NewViewFits n → length (encode_new_view n) ≡ shortest_new_view + length (flat_map encode_view_change n.changes) + prepare_bytes * length n.prepares
-  -- the longest, and no message is longer than the room that every call is lent
-  pub longest_change : (c : Changed) → ViewChangeFits c → length (encode_view_change c) ≤ longest_view_change
-  pub longest : (m : Message) → MessageFits m → length (encode m) ≤ longest_new_view
+  -- the longest of the two kinds; no message is longer than the room that every call is lent
+  pub full_change : (c : Changed) → ViewChangeFits c → Full c → length (encode_view_change c) ≡ longest_view_change
+  pub full_view : (n : Viewed) → NewViewFits n → length n.changes ≡ largest_quorum → AllByRecursion Full n.changes → length n.prepares ≡ window → length (encode_new_view n) ≡ longest_new_view
+  pub no_longer_change : (c : Changed) → ViewChangeFits c → length (encode_view_change c) ≤ longest_view_change
+  pub no_longer : (m : Message) → MessageFits m → length (encode m) ≤ longest_new_view
   -- in a group of three: a NEW-VIEW with nothing proposed or proved
   pub bare_of_three : (n : Viewed) → NewViewFits n → length n.changes ≡ quorum_of 3 → AllByRecursion Bare n.changes → n.prepares ≡ [] → length (encode_new_view n) ≡ 184
