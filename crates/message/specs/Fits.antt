@@ -24,8 +24,8 @@ NewViewFits n =
     × (length n.tag ≡ tag_bytes)
 
 -- bytes are those of a message that fits
-abbrev pub ViewChangeStands : List ℕ → ViewChange → Type 0
+unfoldable pub ViewChangeStands : List ℕ → ViewChange → Type 0
 ViewChangeStands bytes c = Tagged bytes (untagged_view_change c) c.tag × ViewChangeFits c
 
-abbrev pub NewViewStands : List ℕ → NewView → Type 0
+unfoldable pub NewViewStands : List ℕ → NewView → Type 0
 NewViewStands bytes n = Tagged bytes (untagged_new_view n) n.tag × NewViewFits n

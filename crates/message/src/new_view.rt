@@ -43,7 +43,7 @@ impl<'a> Delivered<'a> for NewView<'a> {
 
     ghost says = { new_view_says };
 
-    #[tactic(auto, using(crate::proofs::Exactness::new_views_exact), unfolding(crate::specs::Reading::new_view_from))]
+    #[tactic(auto, using(crate::proofs::Exactness::new_views_exact, crate::proofs::Fronts::new_view_front), unfolding(crate::specs::Reading::new_view_from))]
     fn read(bytes: &'a [u8]) -> Option<(NewView<'a>, &'a [u8])> {
         let rest = behind_type(bytes, NEW_VIEW)?;
         let (view, rest) = u32::read(rest)?;
@@ -60,11 +60,12 @@ impl<'a> Delivered<'a> for NewView<'a> {
         Some((new_view, rest))
     }
 
+    #[tactic(auto, unfolding(crate::specs::Fits::NewViewStands))]
     fn bytes(&self) -> &'a [u8] {
         self.bytes
     }
 
-    #[tactic(auto, using(parts::proofs::Fronts::without_tag))]
+    #[tactic(auto, using(parts::proofs::Fronts::without_tag), unfolding(crate::specs::Fits::NewViewStands))]
     fn statement(&self, group: GroupSize) -> Statement<'a> {
         Statement {
             kind: Kind::Independent.number(),

@@ -58,7 +58,7 @@ impl<'a> Delivered<'a> for ViewChange<'a> {
 
     ghost says = { view_change_says };
 
-    #[tactic(auto, using(crate::proofs::Exactness::view_changes_exact), unfolding(crate::specs::Reading::view_change_from))]
+    #[tactic(auto, using(crate::proofs::Exactness::view_changes_exact, crate::proofs::Fronts::view_change_front), unfolding(crate::specs::Reading::view_change_from))]
     fn read(bytes: &'a [u8]) -> Option<(ViewChange<'a>, &'a [u8])> {
         let rest = behind_type(bytes, VIEW_CHANGE)?;
         let (sender, rest) = u32::read(rest)?;
@@ -83,11 +83,12 @@ impl<'a> Delivered<'a> for ViewChange<'a> {
         Some((change, rest))
     }
 
+    #[tactic(auto, unfolding(crate::specs::Fits::ViewChangeStands))]
     fn bytes(&self) -> &'a [u8] {
         self.bytes
     }
 
-    #[tactic(auto, using(parts::proofs::Fronts::without_tag))]
+    #[tactic(auto, using(parts::proofs::Fronts::without_tag), unfolding(crate::specs::Fits::ViewChangeStands))]
     fn statement(&self, _group: GroupSize) -> Statement<'a> {
         Statement {
             kind: Kind::Continuing.number(),

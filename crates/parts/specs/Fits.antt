@@ -22,11 +22,11 @@ abbrev pub CheckpointFits : Checkpoint → Type 0
 CheckpointFits c = Int c.sender × Int c.order × (length c.digest ≡ digest_bytes) × (length c.tag ≡ tag_bytes)
 
 -- bytes are those of a message that fits
-abbrev pub PrepareStands : List ℕ → Prepare → Type 0
+unfoldable pub PrepareStands : List ℕ → Prepare → Type 0
 PrepareStands bytes p = Tagged bytes (untagged_prepare p) p.tag × PrepareFits p
 
-abbrev pub CommitStands : List ℕ → Commit → Type 0
+unfoldable pub CommitStands : List ℕ → Commit → Type 0
 CommitStands bytes c = Tagged bytes (untagged_commit c) c.tag × CommitFits c
 
-abbrev pub CheckpointStands : List ℕ → Checkpoint → Type 0
+unfoldable pub CheckpointStands : List ℕ → Checkpoint → Type 0
 CheckpointStands bytes c = Tagged bytes (untagged_checkpoint c) c.tag × CheckpointFits c

@@ -49,7 +49,7 @@ impl<'a> Delivered<'a> for Checkpoint<'a> {
 
     ghost says = { checkpoint_says };
 
-    #[tactic(auto, using(crate::proofs::Exactness::checkpoints_exact), unfolding(crate::specs::Reading::checkpoint_from))]
+    #[tactic(auto, using(crate::proofs::Exactness::checkpoints_exact, crate::proofs::Fronts::checkpoint_front), unfolding(crate::specs::Reading::checkpoint_from))]
     fn read(bytes: &'a [u8]) -> Option<(Checkpoint<'a>, &'a [u8])> {
         let rest = behind_type(bytes, CHECKPOINT)?;
         let (sender, rest) = u32::read(rest)?;
@@ -66,11 +66,12 @@ impl<'a> Delivered<'a> for Checkpoint<'a> {
         Some((checkpoint, rest))
     }
 
+    #[tactic(auto, unfolding(crate::specs::Fits::CheckpointStands))]
     fn bytes(&self) -> &'a [u8] {
         self.bytes
     }
 
-    #[tactic(auto, using(crate::proofs::Fronts::without_tag))]
+    #[tactic(auto, using(crate::proofs::Fronts::without_tag), unfolding(crate::specs::Fits::CheckpointStands))]
     fn statement(&self, _group: GroupSize) -> Statement<'a> {
         Statement {
             kind: Kind::Continuing.number(),

@@ -43,7 +43,7 @@ impl<'a> Delivered<'a> for Commit<'a> {
 
     ghost says = { commit_says };
 
-    #[tactic(auto, using(crate::proofs::Exactness::commits_exact), unfolding(crate::specs::Reading::commit_from))]
+    #[tactic(auto, using(crate::proofs::Exactness::commits_exact, crate::proofs::Fronts::commit_front), unfolding(crate::specs::Reading::commit_from))]
     fn read(bytes: &'a [u8]) -> Option<(Commit<'a>, &'a [u8])> {
         let rest = behind_type(bytes, COMMIT)?;
         let (sender, rest) = u32::read(rest)?;
@@ -62,11 +62,12 @@ impl<'a> Delivered<'a> for Commit<'a> {
         Some((commit, rest))
     }
 
+    #[tactic(auto, unfolding(crate::specs::Fits::CommitStands))]
     fn bytes(&self) -> &'a [u8] {
         self.bytes
     }
 
-    #[tactic(auto, using(crate::proofs::Fronts::without_tag))]
+    #[tactic(auto, using(crate::proofs::Fronts::without_tag), unfolding(crate::specs::Fits::CommitStands))]
     fn statement(&self, _group: GroupSize) -> Statement<'a> {
         Statement {
             kind: Kind::Independent.number(),

@@ -49,7 +49,7 @@ impl<'a> Delivered<'a> for Prepare<'a> {
 
     ghost says = { prepare_says };
 
-    #[tactic(auto, using(crate::proofs::Exactness::prepares_exact), unfolding(crate::specs::Reading::prepare_from))]
+    #[tactic(auto, using(crate::proofs::Exactness::prepares_exact, crate::proofs::Fronts::prepare_front), unfolding(crate::specs::Reading::prepare_from))]
     fn read(bytes: &'a [u8]) -> Option<(Prepare<'a>, &'a [u8])> {
         let rest = behind_type(bytes, PREPARE)?;
         let (view, rest) = u32::read(rest)?;
@@ -66,11 +66,12 @@ impl<'a> Delivered<'a> for Prepare<'a> {
         Some((prepare, rest))
     }
 
+    #[tactic(auto, unfolding(crate::specs::Fits::PrepareStands))]
     fn bytes(&self) -> &'a [u8] {
         self.bytes
     }
 
-    #[tactic(auto, using(crate::proofs::Fronts::without_tag))]
+    #[tactic(auto, using(crate::proofs::Fronts::without_tag), unfolding(crate::specs::Fits::PrepareStands))]
     fn statement(&self, group: GroupSize) -> Statement<'a> {
         Statement {
             kind: Kind::Independent.number(),
