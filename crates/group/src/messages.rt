@@ -42,13 +42,12 @@ fn show_prepare(rt: &HostRuntime, prepare: &Prepare) -> Result<(), Stop> {
     let Prepare {
         view,
         order,
-        request,
         tag,
         ..
     } = prepare;
     println!(rt;
         "1 PREPARE view {view} order {order} request {} tag {}",
-        Dotted(*request),
+        Dotted(prepare.request()),
         Hex(*tag)
     )?;
     Ok(())
@@ -59,13 +58,12 @@ fn show_commit(rt: &HostRuntime, commit: &Commit) -> Result<(), Stop> {
         sender,
         view,
         order,
-        request,
         tag,
         ..
     } = commit;
     println!(rt;
         "2 COMMIT sender {sender} view {view} order {order} request {} tag {}",
-        Dotted(*request),
+        Dotted(commit.request()),
         Hex(*tag)
     )?;
     Ok(())

@@ -12,10 +12,10 @@ use Rattle.parts.proofs.Exactness.{prepares_exact, checkpoints_exact}
 use Rattle.message.specs.Encoding.{untagged_view_change, encode_view_change, untagged_new_view, encode_new_view}
 use Rattle.message.specs.Fits.{ViewChangeFits, NewViewFits}
 use Rattle.message.specs.Messages.{ViewChange, NewView}
-use Rattle.message.specs.Reading.{view_change_from, new_view_from}
+use Rattle.message.specs.Reading.{view_change_from, view_change_rest, new_view_from, new_view_rest}
 
 pub view_changes_exact : Exact ViewChangeFits encode_view_change view_change_from
-unfolding untagged_view_change view_change_from
+unfolding untagged_view_change view_change_rest
 view_changes_exact =
     writes_like
     (fits_like
@@ -35,7 +35,7 @@ view_changes_exact =
     encode_view_change (λ c. grind (arith, append_assoc))
 
 pub new_views_exact : Exact NewViewFits encode_new_view new_view_from
-unfolding untagged_new_view new_view_from
+unfolding untagged_new_view new_view_rest
 new_views_exact =
     writes_like
     (fits_like

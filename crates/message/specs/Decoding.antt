@@ -5,10 +5,10 @@ use Rattle.counter.specs.Statements.{Stated}
 use Rattle.xdr.specs.Layout.{fixed}
 use Rattle.xdr.specs.Reading.{and_then, int_from}
 use Rattle.parts.specs.Encoding.{prepare_type, commit_type, checkpoint_type, view_change_type, new_view_type, untagged_prepare, untagged_commit, untagged_checkpoint}
-use Rattle.parts.specs.Reading.{whole, prepare_from, commit_from, checkpoint_from}
+use Rattle.parts.specs.Reading.{whole, prepare_rest, commit_rest, checkpoint_rest}
 use Rattle.parts.specs.Statements.{prepare_says, commit_says, checkpoint_says}
 use Rattle.message.specs.Encoding.{untagged_view_change, untagged_new_view}
-use Rattle.message.specs.Reading.{view_change_from, new_view_from}
+use Rattle.message.specs.Reading.{view_change_rest, new_view_rest}
 use Rattle.message.specs.Statements.{view_change_says, new_view_says}
 use Rattle.message.specs.declared.message.Message.{Message}
 use Rattle.message.specs.declared.message.Message.TheVariants.{Prepare, Commit, Checkpoint, ViewChange, NewView}
@@ -47,13 +47,13 @@ says n (Checkpoint c) = checkpoint_says n c
 says n (ViewChange c) = view_change_says n c
 says n (NewView v) = new_view_says n v
 
--- the message that bytes are, by the type that begins them
+-- the message that bytes are: the first four are the type, and the rest is read by that type
 unfoldable pub decode : List ℕ → Option Message
 decode bytes =
-    and_then (int_from bytes) (λ type _.
-    if nat_eq type prepare_type then option_map Prepare (whole (prepare_from bytes))
-    else (if nat_eq type commit_type then option_map Commit (whole (commit_from bytes))
-    else (if nat_eq type checkpoint_type then option_map Checkpoint (whole (checkpoint_from bytes))
-    else (if nat_eq type view_change_type then option_map ViewChange (whole (view_change_from bytes))
-    else (if nat_eq type new_view_type then option_map NewView (whole (new_view_from bytes))
+    and_then (int_from bytes) (λ type rest.
+    if nat_eq type prepare_type then option_map Prepare (whole (prepare_rest rest))
+    else (if nat_eq type commit_type then option_map Commit (whole (commit_rest rest))
+    else (if nat_eq type checkpoint_type then option_map Checkpoint (whole (checkpoint_rest rest))
+    else (if nat_eq type view_change_type then option_map ViewChange (whole (view_change_rest rest))
+    else (if nat_eq type new_view_type then option_map NewView (whole (new_view_rest rest))
     else None)))))

@@ -91,20 +91,20 @@ impl<'a> Message<'a> {
     }
 }
 
-// The message that bytes are, by the type that begins them.
+// The message that bytes are: the first four are the type, and the rest is read by that type.
 #[tactic(auto, unfolding(crate::specs::Decoding::decode))]
 fn read_by_type(bytes: &[u8]) -> Option<Message<'_>>
     ensures { result ≡ decode bytes.now }
 {
-    let [a, b, c, d, ..] = bytes else {
+    let [a, b, c, d, rest @ ..] = bytes else {
         return None;
     };
     match u32::from_be_bytes([*a, *b, *c, *d]) {
-        PREPARE => Some(Message::Prepare(read_whole(bytes)?)),
-        COMMIT => Some(Message::Commit(read_whole(bytes)?)),
-        CHECKPOINT => Some(Message::Checkpoint(read_whole(bytes)?)),
-        VIEW_CHANGE => Some(Message::ViewChange(read_whole(bytes)?)),
-        NEW_VIEW => Some(Message::NewView(read_whole(bytes)?)),
+        PREPARE => Some(Message::Prepare(read_whole(bytes, rest)?)),
+        COMMIT => Some(Message::Commit(read_whole(bytes, rest)?)),
+        CHECKPOINT => Some(Message::Checkpoint(read_whole(bytes, rest)?)),
+        VIEW_CHANGE => Some(Message::ViewChange(read_whole(bytes, rest)?)),
+        NEW_VIEW => Some(Message::NewView(read_whole(bytes, rest)?)),
         _ => None,
     }
 }

@@ -1,7 +1,7 @@
 // NEW-VIEW: the leader of a new view shows a quorum that asks for it, and proposes again what may have been carried out.
 use super::view_change::ViewChanges;
 use counter::{Kind, Statement};
-use parts::{Delivered, NEW_VIEW, Prepares, VIEW_COUNTER, before, behind_type, untagged};
+use parts::{Delivered, NEW_VIEW, Prepares, VIEW_COUNTER, before, untagged};
 use std::marker::Model;
 use terms::{GroupSize, TAG_BYTES, View};
 use xdr::{Number, read_opaque};
@@ -30,22 +30,31 @@ impl<'a> Model for NewView<'a> {
 }
 
 impl<'a> Delivered<'a> for NewView<'a> {
+    ghost use Rattle.std.specs.Prelude.{◌≡◌};
+    ghost use Rattle.parts.specs.Encoding.{new_view_type};
     ghost use Rattle.message.specs.Encoding.{encode_new_view};
     ghost use Rattle.message.specs.Fits.{NewViewFits};
-    ghost use Rattle.message.specs.Reading.{new_view_from};
+    ghost use Rattle.message.specs.Reading.{new_view_rest};
     ghost use Rattle.message.specs.Statements.{new_view_says};
+
+    ghost number = { new_view_type };
 
     ghost fits = { NewViewFits };
 
     ghost layout = { encode_new_view };
 
-    ghost from = { new_view_from };
+    ghost rest_from = { new_view_rest };
 
     ghost says = { new_view_says };
 
-    #[tactic(auto, using(crate::proofs::Exactness::new_views_exact, crate::proofs::Fronts::new_view_front), unfolding(crate::specs::Reading::new_view_from))]
-    fn read(bytes: &'a [u8]) -> Option<(NewView<'a>, &'a [u8])> {
-        let rest = behind_type(bytes, NEW_VIEW)?;
+    fn type_number() -> u32
+        ensures { result ≡ new_view_type }
+    {
+        NEW_VIEW
+    }
+
+    #[tactic(auto, using(crate::proofs::Exactness::new_views_exact, crate::proofs::Fronts::new_view_front), unfolding(crate::specs::Reading::new_view_rest))]
+    fn read_rest(bytes: &'a [u8], rest: &'a [u8]) -> Option<(NewView<'a>, &'a [u8])> {
         let (view, rest) = u32::read(rest)?;
         let (changes, rest) = ViewChanges::read(rest)?;
         let (prepares, rest) = Prepares::read(rest)?;

@@ -7,8 +7,7 @@ ghost use Rattle.message.specs.Reading.{view_change_from};
 
 use counter::{Kind, Statement};
 use parts::{
-    Checkpoints, Delivered, Nested, ORDER_COUNTER, Prepares, VIEW_CHANGE, before, behind_type,
-    untagged,
+    Checkpoints, Delivered, Nested, ORDER_COUNTER, Prepares, VIEW_CHANGE, before, untagged,
 };
 use std::marker::Model;
 use terms::{GroupSize, LARGEST_QUORUM, Order, TAG_BYTES, View, pair};
@@ -45,22 +44,31 @@ impl<'a> Model for ViewChange<'a> {
 }
 
 impl<'a> Delivered<'a> for ViewChange<'a> {
+    ghost use Rattle.std.specs.Prelude.{◌≡◌};
+    ghost use Rattle.parts.specs.Encoding.{view_change_type};
     ghost use Rattle.message.specs.Encoding.{encode_view_change};
     ghost use Rattle.message.specs.Fits.{ViewChangeFits};
-    ghost use Rattle.message.specs.Reading.{view_change_from};
+    ghost use Rattle.message.specs.Reading.{view_change_rest};
     ghost use Rattle.message.specs.Statements.{view_change_says};
+
+    ghost number = { view_change_type };
 
     ghost fits = { ViewChangeFits };
 
     ghost layout = { encode_view_change };
 
-    ghost from = { view_change_from };
+    ghost rest_from = { view_change_rest };
 
     ghost says = { view_change_says };
 
-    #[tactic(auto, using(crate::proofs::Exactness::view_changes_exact, crate::proofs::Fronts::view_change_front), unfolding(crate::specs::Reading::view_change_from))]
-    fn read(bytes: &'a [u8]) -> Option<(ViewChange<'a>, &'a [u8])> {
-        let rest = behind_type(bytes, VIEW_CHANGE)?;
+    fn type_number() -> u32
+        ensures { result ≡ view_change_type }
+    {
+        VIEW_CHANGE
+    }
+
+    #[tactic(auto, using(crate::proofs::Exactness::view_changes_exact, crate::proofs::Fronts::view_change_front), unfolding(crate::specs::Reading::view_change_rest))]
+    fn read_rest(bytes: &'a [u8], rest: &'a [u8]) -> Option<(ViewChange<'a>, &'a [u8])> {
         let (sender, rest) = u32::read(rest)?;
         let (target, rest) = u32::read(rest)?;
         let (previous, rest) = u64::read(rest)?;

@@ -1,31 +1,19 @@
--- Requests, PREPAREs, COMMITs and CHECKPOINTs are exact.
+-- PREPAREs, COMMITs and CHECKPOINTs are exact.
 use Rattle.std.proofs.Common.{refl, arith}
 use Rattle.terms.specs.Numbers.{digest_bytes, tag_bytes}
-use Rattle.terms.specs.declared.requests.Request.{Request}
 use Rattle.xdr.specs.Laws.{Exact}
 use Rattle.xdr.proofs.Exactness.{fits_like, then_exact}
 use Rattle.xdr.proofs.Numbers.{ints_exact}
 use Rattle.xdr.proofs.Opaque.{opaques_exact}
 use Rattle.parts.specs.Messages.{Prepare, Commit, Checkpoint}
-use Rattle.parts.specs.Encoding.{prepare_type, commit_type, checkpoint_type, encode_request, untagged_prepare, encode_prepare, untagged_commit, encode_commit, untagged_checkpoint, encode_checkpoint}
-use Rattle.parts.specs.Reading.{request_from, prepare_from, commit_from, checkpoint_from}
-use Rattle.parts.specs.Fits.{RequestFits, PrepareFits, CommitFits, CheckpointFits}
+use Rattle.parts.specs.Encoding.{prepare_type, commit_type, checkpoint_type, untagged_prepare, encode_prepare, untagged_commit, encode_commit, untagged_checkpoint, encode_checkpoint}
+use Rattle.parts.specs.Reading.{prepare_from, prepare_rest, commit_from, commit_rest, checkpoint_from, checkpoint_rest}
+use Rattle.parts.specs.Fits.{PrepareFits, CommitFits, CheckpointFits}
+use Rattle.parts.proofs.Requests.{requests_exact}
 use Rattle.parts.proofs.Chains.{typed, next_field, last_field}
 
-pub requests_exact : Exact RequestFits encode_request request_from
-unfolding encode_request request_from
-requests_exact =
-    fits_like
-    (then_exact ints_exact {Y = Request} (λ r. r.client) (λ client _.
-    next_field ints_exact (λ r. r.client) (λ r. r.sequence) client (λ sequence _.
-    next_field ints_exact (λ r. (r.client, r.sequence)) (λ r. r.code) (client, sequence) (λ code _.
-    next_field ints_exact (λ r. ((r.client, r.sequence), r.code)) (λ r. r.key) ((client, sequence), code) (λ key _.
-    last_field ints_exact (λ r. (((r.client, r.sequence), r.code), r.key)) (λ r. r.value) (((client, sequence), code), key)
-    (λ k value. record { client = k.0.0.0; sequence = k.0.0.1; code = k.0.1; key = k.1; value = value }) (λ r. refl) (λ _. refl) (λ _. refl))))))
-    RequestFits (λ r f. (f.0, f.1.0, f.1.1.0, f.1.1.1.0, f.1.1.1.1)) (λ r f. (f.0, (f.1, (f.2, (f.3, f.4)))))
-
 pub prepares_exact : Exact PrepareFits encode_prepare prepare_from
-unfolding untagged_prepare prepare_from
+unfolding untagged_prepare prepare_rest
 prepares_exact =
     fits_like
     (typed prepare_type (omega arith)
@@ -37,7 +25,7 @@ prepares_exact =
     PrepareFits (λ p f. (f.0, f.1.0, f.1.1.0, f.1.1.1)) (λ p f. (f.0, (f.1, (f.2, f.3))))
 
 pub commits_exact : Exact CommitFits encode_commit commit_from
-unfolding untagged_commit commit_from
+unfolding untagged_commit commit_rest
 commits_exact =
     fits_like
     (typed commit_type (omega arith)
@@ -50,7 +38,7 @@ commits_exact =
     CommitFits (λ c f. (f.0, f.1.0, f.1.1.0, f.1.1.1.0, f.1.1.1.1)) (λ c f. (f.0, (f.1, (f.2, (f.3, f.4)))))
 
 pub checkpoints_exact : Exact CheckpointFits encode_checkpoint checkpoint_from
-unfolding untagged_checkpoint checkpoint_from
+unfolding untagged_checkpoint checkpoint_rest
 checkpoints_exact =
     fits_like
     (typed checkpoint_type (omega arith)

@@ -3,3 +3,4 @@ pub mod Chains
 pub mod Exactness
 pub mod Fronts
 pub mod Lists
+pub mod Requests

@@ -6,7 +6,7 @@ ghost use Rattle.xdr.specs.Reading.{value_and_rest, list_from};
 ghost use Rattle.parts.specs.Reading.{checkpoint_from};
 
 use super::delivered::{Delivered, before, untagged};
-use super::fields::{CHECKPOINT, CHECKPOINT_COUNTER, behind_type};
+use super::fields::{CHECKPOINT, CHECKPOINT_COUNTER};
 use super::nested::Nested;
 use counter::{Kind, Statement};
 use std::marker::Model;
@@ -36,22 +36,30 @@ impl<'a> Model for Checkpoint<'a> {
 }
 
 impl<'a> Delivered<'a> for Checkpoint<'a> {
-    ghost use Rattle.parts.specs.Encoding.{encode_checkpoint};
+    ghost use Rattle.std.specs.Prelude.{◌≡◌};
+    ghost use Rattle.parts.specs.Encoding.{checkpoint_type, encode_checkpoint};
     ghost use Rattle.parts.specs.Fits.{CheckpointFits};
-    ghost use Rattle.parts.specs.Reading.{checkpoint_from};
+    ghost use Rattle.parts.specs.Reading.{checkpoint_rest};
     ghost use Rattle.parts.specs.Statements.{checkpoint_says};
+
+    ghost number = { checkpoint_type };
 
     ghost fits = { CheckpointFits };
 
     ghost layout = { encode_checkpoint };
 
-    ghost from = { checkpoint_from };
+    ghost rest_from = { checkpoint_rest };
 
     ghost says = { checkpoint_says };
 
-    #[tactic(auto, using(crate::proofs::Exactness::checkpoints_exact, crate::proofs::Fronts::checkpoint_front), unfolding(crate::specs::Reading::checkpoint_from))]
-    fn read(bytes: &'a [u8]) -> Option<(Checkpoint<'a>, &'a [u8])> {
-        let rest = behind_type(bytes, CHECKPOINT)?;
+    fn type_number() -> u32
+        ensures { result ≡ checkpoint_type }
+    {
+        CHECKPOINT
+    }
+
+    #[tactic(auto, using(crate::proofs::Exactness::checkpoints_exact, crate::proofs::Fronts::checkpoint_front), unfolding(crate::specs::Reading::checkpoint_rest))]
+    fn read_rest(bytes: &'a [u8], rest: &'a [u8]) -> Option<(Checkpoint<'a>, &'a [u8])> {
         let (sender, rest) = u32::read(rest)?;
         let (order, rest) = u32::read(rest)?;
         let (digest, rest) = read_opaque(rest)?;

@@ -1,9 +1,11 @@
 // COMMIT: a follower votes for a request that its leader proposed.
+ghost use Rattle.std.specs.Prelude.{◌≡◌};
+
 use super::delivered::{Delivered, before, untagged};
-use super::fields::{COMMIT, ORDER_COUNTER, behind_type, read_request};
+use super::fields::{COMMIT, ORDER_COUNTER, request_of};
 use counter::{Kind, Statement};
 use std::marker::Model;
-use terms::{GroupSize, Order, Request, TAG_BYTES, View, pair};
+use terms::{GroupSize, Order, REQUEST_BYTES, Request, TAG_BYTES, View, pair};
 use xdr::{Number, read_opaque};
 
 /// A COMMIT, as a part of delivered bytes.
@@ -12,7 +14,7 @@ pub struct Commit<'a> {
     pub sender: u32,
     pub view: View,
     pub order: Order,
-    pub request: Request,
+    pub request: &'a [u8; REQUEST_BYTES],
     pub tag: &'a [u8; TAG_BYTES],
     bytes: &'a [u8],
 }
@@ -23,33 +25,51 @@ impl<'a> Model for Commit<'a> {
     ghost Value = { Commit };
 
     ghost use Rattle.parts.specs.Fits.{CommitStands};
+    ghost use Rattle.parts.specs.Reading.{request_of};
 
-    ghost view = { λ c. record { sender = c.sender; view = c.view.0; order = c.order.0; request = c.request; tag = c.tag.now } };
+    ghost view = { λ c. record { sender = c.sender; view = c.view.0; order = c.order.0; request = request_of c.request.now; tag = c.tag.now } };
 
-    ghost invariant = { λ c. CommitStands c.bytes.now (record { sender = c.sender; view = c.view.0; order = c.order.0; request = c.request; tag = c.tag.now }) };
+    ghost invariant = { λ c. CommitStands c.bytes.now (record { sender = c.sender; view = c.view.0; order = c.order.0; request = request_of c.request.now; tag = c.tag.now }) };
+}
+
+impl<'a> Commit<'a> {
+    /// The request's five numbers.
+    pub fn request(&self) -> Request
+        ensures { result ≡ self.now.request }
+    {
+        request_of(self.request)
+    }
 }
 
 impl<'a> Delivered<'a> for Commit<'a> {
-    ghost use Rattle.parts.specs.Encoding.{encode_commit};
+    ghost use Rattle.std.specs.Prelude.{◌≡◌};
+    ghost use Rattle.parts.specs.Encoding.{commit_type, encode_commit};
     ghost use Rattle.parts.specs.Fits.{CommitFits};
-    ghost use Rattle.parts.specs.Reading.{commit_from};
+    ghost use Rattle.parts.specs.Reading.{commit_rest};
     ghost use Rattle.parts.specs.Statements.{commit_says};
+
+    ghost number = { commit_type };
 
     ghost fits = { CommitFits };
 
     ghost layout = { encode_commit };
 
-    ghost from = { commit_from };
+    ghost rest_from = { commit_rest };
 
     ghost says = { commit_says };
 
-    #[tactic(auto, using(crate::proofs::Exactness::commits_exact, crate::proofs::Fronts::commit_front), unfolding(crate::specs::Reading::commit_from))]
-    fn read(bytes: &'a [u8]) -> Option<(Commit<'a>, &'a [u8])> {
-        let rest = behind_type(bytes, COMMIT)?;
+    fn type_number() -> u32
+        ensures { result ≡ commit_type }
+    {
+        COMMIT
+    }
+
+    #[tactic(auto, using(crate::proofs::Exactness::commits_exact, crate::proofs::Fronts::commit_front), unfolding(crate::specs::Reading::commit_rest))]
+    fn read_rest(bytes: &'a [u8], rest: &'a [u8]) -> Option<(Commit<'a>, &'a [u8])> {
         let (sender, rest) = u32::read(rest)?;
         let (view, rest) = u32::read(rest)?;
         let (order, rest) = u32::read(rest)?;
-        let (request, rest) = read_request(rest)?;
+        let (request, rest) = read_opaque(rest)?;
         let (tag, rest) = read_opaque(rest)?;
         let commit = Commit {
             sender,

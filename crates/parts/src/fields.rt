@@ -1,11 +1,8 @@
 // What messages of several kinds begin with or contain, and the numbers that their code shares.
 ghost use Rattle.std.specs.Prelude.{◌≡◌};
-ghost use Rattle.std.specs.Option.{option_map};
-ghost use Rattle.xdr.specs.Reading.{value_and_rest};
-ghost use Rattle.parts.specs.Reading.{type_from, request_from};
+ghost use Rattle.parts.specs.Reading.{request_of};
 
-use terms::Request;
-use xdr::Number;
+use terms::{REQUEST_BYTES, Request};
 
 /// The counter that certifies what happens to orders: PREPAREs, COMMITs and VIEW-CHANGEs.
 pub const ORDER_COUNTER: u32 = 0;
@@ -25,33 +22,38 @@ pub const VIEW_CHANGE: u32 = 4;
 
 pub const NEW_VIEW: u32 = 5;
 
-// The bytes behind a type, where they begin with this one.
-pub fn behind_type(bytes: &[u8], kind: u32) -> Option<&[u8]>
-    ensures { option_map (λ rest. (kind, rest.now)) result ≡ type_from kind bytes.now }
+// The request whose bytes these are: five numbers.
+#[tactic(auto, unfolding(crate::specs::Reading::request_of))]
+pub fn request_of(bytes: &[u8; REQUEST_BYTES]) -> Request
+    ensures { result ≡ request_of bytes.now }
 {
-    let (found, rest) = u32::read(bytes)?;
-    if found != kind {
-        return None;
+    let [
+        c0,
+        c1,
+        c2,
+        c3,
+        s0,
+        s1,
+        s2,
+        s3,
+        d0,
+        d1,
+        d2,
+        d3,
+        k0,
+        k1,
+        k2,
+        k3,
+        v0,
+        v1,
+        v2,
+        v3,
+    ] = *bytes;
+    Request {
+        client: u32::from_be_bytes([c0, c1, c2, c3]),
+        sequence: u32::from_be_bytes([s0, s1, s2, s3]),
+        code: u32::from_be_bytes([d0, d1, d2, d3]),
+        key: u32::from_be_bytes([k0, k1, k2, k3]),
+        value: u32::from_be_bytes([v0, v1, v2, v3]),
     }
-    Some(rest)
-}
-
-// A request's five numbers.
-#[tactic(auto, unfolding(crate::specs::Reading::request_from))]
-pub fn read_request(bytes: &[u8]) -> Option<(Request, &[u8])>
-    ensures { option_map value_and_rest result ≡ request_from bytes.now }
-{
-    let (client, rest) = u32::read(bytes)?;
-    let (sequence, rest) = u32::read(rest)?;
-    let (code, rest) = u32::read(rest)?;
-    let (key, rest) = u32::read(rest)?;
-    let (value, rest) = u32::read(rest)?;
-    let request = Request {
-        client,
-        sequence,
-        code,
-        key,
-        value,
-    };
-    Some((request, rest))
 }

@@ -6,11 +6,11 @@ ghost use Rattle.xdr.specs.Reading.{value_and_rest, list_from};
 ghost use Rattle.parts.specs.Reading.{prepare_from};
 
 use super::delivered::{Delivered, before, untagged};
-use super::fields::{ORDER_COUNTER, PREPARE, behind_type, read_request};
+use super::fields::{ORDER_COUNTER, PREPARE, request_of};
 use super::nested::Nested;
 use counter::{Kind, Statement};
 use std::marker::Model;
-use terms::{GroupSize, Order, Request, TAG_BYTES, View, WINDOW, pair};
+use terms::{GroupSize, Order, REQUEST_BYTES, Request, TAG_BYTES, View, WINDOW, pair};
 use xdr::{Number, read_opaque};
 
 /// A PREPARE, as a part of delivered bytes.
@@ -18,7 +18,7 @@ use xdr::{Number, read_opaque};
 pub struct Prepare<'a> {
     pub view: View,
     pub order: Order,
-    pub request: Request,
+    pub request: &'a [u8; REQUEST_BYTES],
     pub tag: &'a [u8; TAG_BYTES],
     bytes: &'a [u8],
 }
@@ -29,32 +29,50 @@ impl<'a> Model for Prepare<'a> {
     ghost Value = { Prepare };
 
     ghost use Rattle.parts.specs.Fits.{PrepareStands};
+    ghost use Rattle.parts.specs.Reading.{request_of};
 
-    ghost view = { λ p. record { view = p.view.0; order = p.order.0; request = p.request; tag = p.tag.now } };
+    ghost view = { λ p. record { view = p.view.0; order = p.order.0; request = request_of p.request.now; tag = p.tag.now } };
 
-    ghost invariant = { λ p. PrepareStands p.bytes.now (record { view = p.view.0; order = p.order.0; request = p.request; tag = p.tag.now }) };
+    ghost invariant = { λ p. PrepareStands p.bytes.now (record { view = p.view.0; order = p.order.0; request = request_of p.request.now; tag = p.tag.now }) };
+}
+
+impl<'a> Prepare<'a> {
+    /// The request's five numbers.
+    pub fn request(&self) -> Request
+        ensures { result ≡ self.now.request }
+    {
+        request_of(self.request)
+    }
 }
 
 impl<'a> Delivered<'a> for Prepare<'a> {
-    ghost use Rattle.parts.specs.Encoding.{encode_prepare};
+    ghost use Rattle.std.specs.Prelude.{◌≡◌};
+    ghost use Rattle.parts.specs.Encoding.{prepare_type, encode_prepare};
     ghost use Rattle.parts.specs.Fits.{PrepareFits};
-    ghost use Rattle.parts.specs.Reading.{prepare_from};
+    ghost use Rattle.parts.specs.Reading.{prepare_rest};
     ghost use Rattle.parts.specs.Statements.{prepare_says};
+
+    ghost number = { prepare_type };
 
     ghost fits = { PrepareFits };
 
     ghost layout = { encode_prepare };
 
-    ghost from = { prepare_from };
+    ghost rest_from = { prepare_rest };
 
     ghost says = { prepare_says };
 
-    #[tactic(auto, using(crate::proofs::Exactness::prepares_exact, crate::proofs::Fronts::prepare_front), unfolding(crate::specs::Reading::prepare_from))]
-    fn read(bytes: &'a [u8]) -> Option<(Prepare<'a>, &'a [u8])> {
-        let rest = behind_type(bytes, PREPARE)?;
+    fn type_number() -> u32
+        ensures { result ≡ prepare_type }
+    {
+        PREPARE
+    }
+
+    #[tactic(auto, using(crate::proofs::Exactness::prepares_exact, crate::proofs::Fronts::prepare_front), unfolding(crate::specs::Reading::prepare_rest))]
+    fn read_rest(bytes: &'a [u8], rest: &'a [u8]) -> Option<(Prepare<'a>, &'a [u8])> {
         let (view, rest) = u32::read(rest)?;
         let (order, rest) = u32::read(rest)?;
-        let (request, rest) = read_request(rest)?;
+        let (request, rest) = read_opaque(rest)?;
         let (tag, rest) = read_opaque(rest)?;
         let prepare = Prepare {
             view: View(view),
