@@ -86,10 +86,10 @@ pub fn close_counter<C: Counter>(
     Ok(())
 }
 
-/// Prints how many bytes were messages and how many were none.
+/// Prints how many messages were read and how many refused.
 pub fn close_mail(rt: &HostRuntime, messages: YesNo) -> Result<(), Stop> {
     println!(rt;
-        "messages: {}, not messages: {}",
+        "messages read: {}, refused: {}",
         messages.yes(),
         messages.no()
     )?;
