@@ -1,0 +1,6 @@
+-- The lemmas that the answers share.
+pub mod Holding
+pub mod Pieces
+pub mod Puts
+pub mod Rows
+pub mod Writing

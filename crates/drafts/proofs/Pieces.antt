@@ -1,0 +1,44 @@
+-- Pieces of any length, one written behind the other.
+use Rattle.std.proofs.Common.{◌≡◌, ℕ, ◌+◌, ◌<◌, ◌≤◌, List, [], ◌++◌, length, get_or, take, sym, refl, ap, ◌∙◌, arith, length-append}
+use Rattle.std.specs.List.{flat_map}
+use Rattle.std.proofs.lemmas.List.{take_all, take_more, flat_map_more}
+use Rattle.std.proofs.lemmas.List.Folds.{length-flat_map-take}
+use Rattle.xdr.specs.Layout.{int, counted}
+use Rattle.xdr.specs.Writing.{Room, wrote}
+use Rattle.xdr.specs.declared.writer.Writer.{Writer}
+use Rattle.xdr.proofs.Writing.{wrote_more, room_behind}
+
+-- a counted list of them
+pub length-counted_any : {X : Type 0} (each : X → List ℕ) (xs : List X) → length (counted each xs) ≡ 4 + length (flat_map each xs)
+unfolding counted
+length-counted_any each xs = omega arith
+
+-- the first i, and the next
+module _ {X : Type 0} (each : X → List ℕ) (xs : List X) (i : ℕ) (x : X) (less : i < length xs) (is : x ≡ get_or xs i x) where
+  taken_next : flat_map each (take (i + 1) xs) ≡ flat_map each (take i xs) ++ each x
+  taken_next = ap (λ ys. flat_map each ys) (take_more xs i x less) ∙ sym (flat_map_more each [] (take i xs) (get_or xs i x)) ∙ ap (λ y. flat_map each (take i xs) ++ each y) (sym is)
+
+  pub length-taken_next : length (flat_map each (take (i + 1) xs)) ≡ length (flat_map each (take i xs)) + length (each x)
+  length-taken_next = omega (arith, ap length taken_next, length-append (flat_map each (take i xs)) (each x))
+
+  next_within : length (flat_map each (take i xs)) + length (each x) ≤ length (flat_map each xs)
+  next_within = rw is (length-flat_map-take each xs i x less)
+
+  -- in a writer that has room for all of them
+  module _ (w : Writer) (room : Room w (length (counted each xs))) where
+    abbrev first : List ℕ
+    first = int (length xs) ++ flat_map each (take i xs)
+
+    pub room_for_next : Room (wrote w first) (length (each x))
+    room_for_next = room_behind w _ first (length (each x)) (omega (arith, room, length-counted_any each xs, next_within)) refl
+
+    pub wrote_next : wrote (wrote w first) (each x) ≡ wrote w (int (length xs) ++ flat_map each (take (i + 1) xs))
+    wrote_next = wrote_more w first (each x) (omega (arith, room, length-counted_any each xs, next_within)) ∙ ap (λ bytes. wrote w (int (length xs) ++ bytes)) (sym taken_next)
+
+-- and the last
+pub wrote_all : {X : Type 0} (each : X → List ℕ) (w : Writer) (xs : List X) (i : ℕ) → length xs ≤ i → wrote w (int (length xs) ++ flat_map each (take i xs)) ≡ wrote w (counted each xs)
+unfolding counted
+wrote_all each w xs i end = ap (λ ys. wrote w (int (length xs) ++ flat_map each ys)) (take_all i xs end)
+
+-- for a count and the pieces behind it
+pub ruleset pieces = (length-counted_any)

@@ -1,0 +1,58 @@
+// What a message says before it is tagged, and the two calls that write one into a lent buffer.
+ghost use Rattle.std.specs.Prelude.{◌≡◌, ℕ, true, List, [], length, take, IfSome};
+ghost use Rattle.message.specs.Decoding.{untagged, decode};
+ghost use Rattle.message.specs.Laws.{MessageFits};
+ghost use Rattle.message.specs.declared.message.Message.{Message};
+ghost use Rattle.xdr.specs.Writing.{Room, wrote};
+ghost use Rattle.drafts.specs.Laws.{TagApart};
+ghost use Rattle.drafts.specs.Limits.{within, drafted_len};
+ghost use Rattle.drafts.specs.Writing.{written, drafted};
+
+use terms::TAG_BYTES;
+use xdr::Writer;
+
+/// What a message says before it is tagged.
+pub trait Draft {
+    /// The message that it becomes with a tag.
+    ghost message: { Self → List ℕ → Message };
+
+    /// How many bytes it has without a tag, or None where one of its lists is longer than a message's may be.
+    fn len(&self) -> Option<usize>
+        ensures { result ≡ drafted_len (message self.now []) };
+
+    /// Writes it without a tag.
+    fn put(&self, writer: &mut Writer<'_>)
+        requires within { within (message self.now []) ≡ true }
+        requires room { Room writer.old (length (untagged (message self.now []))) }
+        ensures { writer.new ≡ wrote writer.old (untagged (message self.now [])) };
+
+    /// A tag changes nothing but the tag.
+    ghost tag_apart: { (draft : Self) → TagApart (message draft) };
+}
+
+/// Writes the message with a tag at the front of a buffer and answers how many bytes that are, or answers None and
+/// writes nothing where the message does not fit or a list is too long. The bytes behind the message stay,
+/// and a message within its limits reads back from those that were written.
+#[tactic(auto, using(crate::proofs::Writing::tag_written, crate::proofs::Writing::tag_reads))]
+pub fn write<D: Draft>(draft: &D, tag: &[u8; TAG_BYTES], out: &mut [u8]) -> Option<usize>
+    ensures value { (result, out.new) ≡ written (D.Draft.message draft.now tag.now) out.old }
+    ensures back { MessageFits (D.Draft.message draft.now tag.now) → IfSome result (λ n. decode (take n out.new) ≡ Some (D.Draft.message draft.now tag.now)) }
+{
+    let length = write_untagged(draft, out)?;
+    Writer::at(out, length).put(tag);
+    Some(length + TAG_BYTES)
+}
+
+/// The same without the tag: the bytes that are to be tagged. The buffer must have room for the whole message, its tag
+/// included.
+pub fn write_untagged<D: Draft>(draft: &D, out: &mut [u8]) -> Option<usize>
+    ensures value { (result, out.new) ≡ drafted (D.Draft.message draft.now []) out.old }
+{
+    let length = draft.len()?;
+    let room = out.len().checked_sub(TAG_BYTES)?;
+    if length > room {
+        return None;
+    }
+    draft.put(&mut Writer::new(out));
+    Some(length)
+}

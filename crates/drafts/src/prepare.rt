@@ -1,0 +1,52 @@
+// PREPARE before it is tagged.
+use super::draft::Draft;
+use super::fields::put_request;
+use parts::{PREPARE, Prepare};
+use terms::{Order, PREPARE_BYTES, Request, TAG_BYTES, View};
+use xdr::Writer;
+
+/// A leader's proposal of a request for an order.
+#[derive(Clone, Copy, PartialEq, Eq, Debug)]
+pub struct PrepareDraft {
+    pub view: View,
+    pub order: Order,
+    pub request: Request,
+}
+
+impl PrepareDraft {
+    ghost use Rattle.std.specs.Prelude.{◌≡◌};
+    ghost use Rattle.drafts.specs.Says.{prepare_with};
+
+    /// What a PREPARE that was read says.
+    pub fn of(prepare: &Prepare<'_>) -> PrepareDraft
+        ensures { prepare_with result prepare.now.tag ≡ prepare.now }
+    {
+        PrepareDraft {
+            view: prepare.view,
+            order: prepare.order,
+            request: prepare.request(),
+        }
+    }
+}
+
+impl Draft for PrepareDraft {
+    ghost use Rattle.std.specs.Prelude.{refl};
+    ghost use Rattle.parts.specs.Encoding.{untagged_prepare};
+    ghost use Rattle.message.specs.declared.message.Message.TheVariants.{Prepare};
+    ghost use Rattle.drafts.specs.Says.{prepare_with};
+
+    ghost message = { λ d tag. Prepare (prepare_with d tag) };
+
+    ghost tag_apart = { λ d. unfold untagged_prepare in record { bytes = λ tag. refl; limits = λ tag. refl; last = λ tag. refl } };
+
+    #[tactic(auto, unfolding(parts::specs::Encoding::untagged_prepare, parts::specs::Encoding::encode_request))]
+    fn len(&self) -> Option<usize> {
+        Some(PREPARE_BYTES - TAG_BYTES)
+    }
+
+    #[tactic(auto, using(crate::proofs::Puts::puts), unfolding(parts::specs::Encoding::untagged_prepare, parts::specs::Encoding::encode_request))]
+    fn put(&self, writer: &mut Writer<'_>) {
+        writer.put_rows(&[PREPARE, self.view.0, self.order.0]);
+        put_request(self.request, writer);
+    }
+}
