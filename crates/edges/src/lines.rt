@@ -2,10 +2,14 @@
 use anyhow::Context;
 use counter::{Counter, Kind, Seat};
 use counters::HmacCounter;
+use drafts::{NewViewDraft, ViewChangeDraft, write};
+use message::{Message, ViewChange};
 use registers::GlyphRegister;
 use service::Service;
 use std::io;
-use terms::{GroupSize, Order, Refusal, Request, TAG_BYTES, View, pair};
+use terms::{
+    GroupSize, OUT_BYTES, Order, Refusal, Request, SHORTEST_VIEW_CHANGE, TAG_BYTES, View, pair,
+};
 
 /// A group of so many seats: its quorum and fault limit, or its refusal.
 pub fn show_group(rt: &HostRuntime, seats: u32) -> io::Result<()> {
@@ -70,4 +74,49 @@ pub fn show_advance(rt: &HostRuntime, advance: u32) -> anyhow::Result<()> {
     });
     println!(rt; "advance {advance}: status {status} value {value}")?;
     Ok(())
+}
+
+/// The NEW-VIEW for view 1 of a group of three in which nothing was proposed or proved.
+pub fn show_bare_new_view(rt: &HostRuntime) -> anyhow::Result<()> {
+    let mut mail = [0; 2 * SHORTEST_VIEW_CHANGE];
+    let (first, second) = mail.split_at_mut(SHORTEST_VIEW_CHANGE);
+    write_bare_view_change(0, first)?;
+    write_bare_view_change(1, second)?;
+    let len = bare_new_view_len(&mail)?;
+    println!(rt; "a NEW-VIEW of 3 seats with nothing proposed or proved: {len} bytes")?;
+    Ok(())
+}
+
+// Writes the VIEW-CHANGE for view 1 of a replica that knows of nothing.
+fn write_bare_view_change(sender: u32, out: &mut [u8]) -> anyhow::Result<()> {
+    let change = ViewChangeDraft {
+        sender,
+        target: View(1),
+        previous: 0,
+        from: View(0),
+        low: Order(0),
+        proof: &[],
+        entries: &[],
+    };
+    let _ = write(&change, &[0; TAG_BYTES], out).context("a bare VIEW-CHANGE has this room")?;
+    Ok(())
+}
+
+// How many bytes the NEW-VIEW has that shows two such VIEW-CHANGEs.
+fn bare_new_view_len(mail: &[u8]) -> anyhow::Result<usize> {
+    let (first, second) = mail.split_at_checked(SHORTEST_VIEW_CHANGE).context("two VIEW-CHANGEs")?;
+    let new_view = NewViewDraft {
+        view: View(1),
+        changes: &[view_change(first)?, view_change(second)?],
+        prepares: &[],
+    };
+    let mut out = [0; OUT_BYTES];
+    write(&new_view, &[0; TAG_BYTES], &mut out).context("a NEW-VIEW has this room")
+}
+
+fn view_change(bytes: &[u8]) -> anyhow::Result<ViewChange<'_>> {
+    match Message::read(bytes)? {
+        Message::ViewChange(change) => Ok(change),
+        _ => Err(Refusal::NoMessage.into()),
+    }
 }

@@ -4,7 +4,7 @@
 mod lines;
 mod proved;
 
-use lines::{show_advance, show_group, show_pair, show_present_value};
+use lines::{show_advance, show_bare_new_view, show_group, show_pair, show_present_value};
 use proved::proved_edges;
 
 fn main(rt: HostRuntime) -> anyhow::Result<()> {
@@ -17,6 +17,7 @@ fn run(rt: &HostRuntime) -> anyhow::Result<()> {
     }
     show_pair(rt, 2, 5)?;
     show_present_value(rt)?;
+    show_bare_new_view(rt)?;
     show_advance(rt, 65_535)?;
     show_advance(rt, 65_536)?;
     let proved = proved_edges();

@@ -112,7 +112,7 @@ impl<'a> Delivered<'a> for ViewChange<'a> {
 /// The VIEW-CHANGEs in a NEW-VIEW: at most the largest quorum of them.
 #[derive(Drop)]
 pub struct ViewChanges<'a> {
-    list: Nested<'a, ViewChange<'a>>,
+    list: Nested<'a>,
 }
 
 impl<'a> Model for ViewChanges<'a> {
@@ -148,7 +148,7 @@ impl<'a> ViewChanges<'a> {
     pub(crate) fn read(bytes: &'a [u8]) -> Option<(ViewChanges<'a>, &'a [u8])>
         ensures { option_map value_and_rest result ≡ list_from view_change_from largest_quorum bytes.now }
     {
-        let (list, rest) = Nested::read(bytes, LARGEST_QUORUM)?;
+        let (list, rest) = Nested::read::<ViewChange>(bytes, LARGEST_QUORUM)?;
         Some((ViewChanges { list }, rest))
     }
 }

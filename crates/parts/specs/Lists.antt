@@ -13,8 +13,8 @@ unfoldable pub items_from : {M : Type 0} → (List ℕ → Option (M × List ℕ
 items_from read zero bytes = []
 items_from read (suc n) bytes = items_then (read bytes) (items_from read n)
 
-abbrev pub listed : {M : Type 0} → (List ℕ → Option (M × List ℕ)) → Nested M → List M
+abbrev pub listed : {M : Type 0} → (List ℕ → Option (M × List ℕ)) → Nested → List M
 listed read l = items_from read l.count l.bytes.now
 
-abbrev pub listed_and_rest : {M : Type 0} → (List ℕ → Option (M × List ℕ)) → Nested M × Bor (List ℕ) → List M × List ℕ
+abbrev pub listed_and_rest : {M : Type 0} → (List ℕ → Option (M × List ℕ)) → Nested × Bor (List ℕ) → List M × List ℕ
 listed_and_rest read p = (listed read p.0, p.1.now)

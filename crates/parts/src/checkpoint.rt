@@ -95,7 +95,7 @@ impl<'a> Delivered<'a> for Checkpoint<'a> {
 /// The CHECKPOINTs that prove a low mark: at most the largest quorum of them.
 #[derive(Drop)]
 pub struct Checkpoints<'a> {
-    list: Nested<'a, Checkpoint<'a>>,
+    list: Nested<'a>,
 }
 
 impl<'a> Model for Checkpoints<'a> {
@@ -131,7 +131,7 @@ impl<'a> Checkpoints<'a> {
     pub fn read(bytes: &'a [u8]) -> Option<(Checkpoints<'a>, &'a [u8])>
         ensures { option_map value_and_rest result ≡ list_from checkpoint_from largest_quorum bytes.now }
     {
-        let (list, rest) = Nested::read(bytes, LARGEST_QUORUM)?;
+        let (list, rest) = Nested::read::<Checkpoint>(bytes, LARGEST_QUORUM)?;
         Some((Checkpoints { list }, rest))
     }
 }

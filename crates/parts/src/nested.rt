@@ -6,20 +6,18 @@ ghost use Rattle.parts.specs.Lists.{listed, listed_and_rest};
 ghost use Rattle.parts.specs.Reading.{of_type};
 
 use super::delivered::{Delivered, read_nested};
-use std::marker::PhantomData;
 use xdr::read_count;
 
 // How many messages there are, and the bytes in which they stand.
-#[derive(Drop)]
-pub struct Nested<'a, M> {
+#[derive(Clone, Copy)]
+pub struct Nested<'a> {
     pub count: u32,
     bytes: &'a [u8],
-    kind: PhantomData<M>,
 }
 
-impl<'a, M: Delivered<'a>> Nested<'a, M> {
+impl<'a> Nested<'a> {
     // Reads a counted list of at most so many messages.
-    pub fn read(bytes: &'a [u8], most: u32) -> Option<(Nested<'a, M>, &'a [u8])>
+    pub fn read<M: Delivered<'a>>(bytes: &'a [u8], most: u32) -> Option<(Nested<'a>, &'a [u8])>
         ensures all { IfSome result (λ p. length (listed (of_type M.Delivered.number M.Delivered.rest_from) p.0) ≡ p.0.count) }
         ensures value { option_map (listed_and_rest (of_type M.Delivered.number M.Delivered.rest_from)) result ≡ list_from (of_type M.Delivered.number M.Delivered.rest_from) most bytes.now }
     {
@@ -29,12 +27,11 @@ impl<'a, M: Delivered<'a>> Nested<'a, M> {
             let (_, behind) = read_nested::<M>(rest)?;
             rest = behind;
         }
-        let kind = PhantomData;
-        Some((Nested { count, bytes, kind }, rest))
+        Some((Nested { count, bytes }, rest))
     }
 
     // The message at a place, if there is one.
-    pub fn get(&self, place: usize) -> Option<M>
+    pub fn get<M: Delivered<'a>>(&self, place: usize) -> Option<M>
         ensures { result ≡ slice_get (listed (of_type M.Delivered.number M.Delivered.rest_from) self.now) place }
     {
         if place >= self.count as usize {

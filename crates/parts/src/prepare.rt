@@ -105,7 +105,7 @@ impl<'a> Delivered<'a> for Prepare<'a> {
 /// The PREPAREs in a VIEW-CHANGE or a NEW-VIEW: at most a window of them.
 #[derive(Drop)]
 pub struct Prepares<'a> {
-    list: Nested<'a, Prepare<'a>>,
+    list: Nested<'a>,
 }
 
 impl<'a> Model for Prepares<'a> {
@@ -141,7 +141,7 @@ impl<'a> Prepares<'a> {
     pub fn read(bytes: &'a [u8]) -> Option<(Prepares<'a>, &'a [u8])>
         ensures { option_map value_and_rest result ≡ list_from prepare_from window bytes.now }
     {
-        let (list, rest) = Nested::read(bytes, WINDOW)?;
+        let (list, rest) = Nested::read::<Prepare>(bytes, WINDOW)?;
         Some((Prepares { list }, rest))
     }
 }
