@@ -4,7 +4,7 @@ use Rattle.std.specs.List.{flat_map}
 use Rattle.std.proofs.lemmas.List.{length-map}
 use Rattle.std.proofs.lemmas.List.Folds.{flat_map-map}
 use Rattle.xdr.specs.Layout.{int, counted}
-use Rattle.xdr.proofs.Listing.{length-counted}
+use Rattle.xdr.proofs.Listing.{length-counted, length-counted_any}
 use Rattle.xdr.proofs.Pasting.{length-pasted}
 use Rattle.xdr.proofs.Widths.{every}
 use Rattle.xdr.proofs.Writing.{wrote_more}
@@ -17,7 +17,6 @@ use Rattle.drafts.specs.declared.tagged.Tagged.{Tagged}
 use Rattle.drafts.specs.declared.view_change.ViewChangeDraft.{ViewChangeDraft}
 use Rattle.drafts.specs.Lengths.{length-prepare, length-checkpoint}
 use Rattle.drafts.specs.Says.{kept_prepare, kept_checkpoint, view_change_with, view_change_head, new_view_with}
-use Rattle.drafts.proofs.Pieces.{length-counted_any}
 
 -- what is kept as one thing and laid out as another
 counted_map : {X Y : Type 0} (each : Y → List ℕ) (kept : X → Y) (xs : List X) → counted each (map kept xs) ≡ counted (λ x. each (kept x)) xs

@@ -3,15 +3,11 @@ use Rattle.std.proofs.Common.{◌≡◌, ℕ, ◌+◌, ◌<◌, ◌≤◌, List,
 use Rattle.std.specs.List.{flat_map}
 use Rattle.std.proofs.lemmas.List.{take_all, take_more, flat_map_more}
 use Rattle.std.proofs.lemmas.List.Folds.{length-flat_map-take}
+use Rattle.xdr.proofs.Listing.{length-counted_any}
 use Rattle.xdr.specs.Layout.{int, counted}
 use Rattle.xdr.specs.Writing.{Room, wrote}
 use Rattle.xdr.specs.declared.writer.Writer.{Writer}
 use Rattle.xdr.proofs.Writing.{wrote_more, room_behind}
-
--- a counted list of them
-pub length-counted_any : {X : Type 0} (each : X → List ℕ) (xs : List X) → length (counted each xs) ≡ 4 + length (flat_map each xs)
-unfolding counted
-length-counted_any each xs = omega arith
 
 -- the first i, and the next
 module _ {X : Type 0} (each : X → List ℕ) (xs : List X) (i : ℕ) (x : X) (less : i < length xs) (is : x ≡ get_or xs i x) where

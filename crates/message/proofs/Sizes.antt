@@ -4,7 +4,7 @@ use Rattle.std.specs.List.{AllByRecursion, flat_map}
 use Rattle.terms.specs.Numbers.{largest_quorum, window, prepare_bytes, commit_bytes, checkpoint_bytes, shortest_view_change, longest_view_change, shortest_new_view, longest_new_view}
 use Rattle.terms.specs.Quorums.{quorum_of}
 use Rattle.xdr.specs.Layout.{counted}
-use Rattle.xdr.proofs.Listing.{length-counted, length-joined}
+use Rattle.xdr.proofs.Listing.{length-counted, length-counted_any, length-joined}
 use Rattle.parts.specs.Encoding.{encode_request, untagged_prepare, encode_prepare, untagged_commit, encode_commit, untagged_checkpoint, encode_checkpoint}
 use Rattle.parts.specs.Fits.{PrepareFits, CommitFits, CheckpointFits}
 use Rattle.parts.specs.Messages.{Prepare as Prepared, Commit as Committed, Checkpoint as Checked}
@@ -51,14 +51,10 @@ view_change_size c f =
 change_within : (c : Changed) → ViewChangeFits c → length (encode_view_change c) ≤ longest_view_change
 change_within c f = omega (arith, view_change_size c f, f.5, f.7)
 
-changes_size : (cs : List Changed) → length (counted encode_view_change cs) ≡ 4 + length (flat_map encode_view_change cs)
-unfolding counted
-changes_size cs = omega arith
-
 new_view_size : (n : Viewed) → NewViewFits n → length (encode_new_view n) ≡ shortest_new_view + length (flat_map encode_view_change n.changes) + prepare_bytes * length n.prepares
 unfolding untagged_new_view
 new_view_size n f =
-    let changes = changes_size n.changes in
+    let changes = length-counted_any encode_view_change n.changes in
     let prepares = prepares_size n.prepares f.4 in
     let lists = length-append (counted encode_view_change n.changes) (counted encode_prepare n.prepares) in
     let whole = length-append (counted encode_view_change n.changes ++ counted encode_prepare n.prepares) n.tag in

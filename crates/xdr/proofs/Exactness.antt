@@ -26,14 +26,6 @@ then_parts None next y e = absurd (no_answer y e)
 then_parts (Some p) next y e = (p, refl, e)
 
 module _ {X : Type 0} {fits : X → Type 0} {write : X → List ℕ} {read : List ℕ → Option (X × List ℕ)} (exact : Exact fits write read) where
-  -- two writings that begin one list are the same
-  pub same_writing : (x y : X) (rest more : List ℕ) → fits x → fits y → write x ++ rest ≡ write y ++ more → (x ≡ y) × (rest ≡ more)
-  same_writing x y rest more f g e = grind arith
-
-  -- the same of two writings that are whole lists
-  pub same_written : (x y : X) → fits x → fits y → write x ≡ write y → x ≡ y
-  same_written x y f g e = (same_writing x y [] [] f g (ap (λ (bytes : List ℕ). bytes ++ []) e)).0
-
   -- the bytes behind a value that was read
   pub rest_bytes : (bytes : List ℕ) (x : X) (rest : List ℕ) → Bytes bytes → read bytes ≡ Some (x, rest) → Bytes rest
   rest_bytes bytes x rest h e = bytes_behind (write x) rest (subst Bytes (exact.only bytes x rest h e).0 h)

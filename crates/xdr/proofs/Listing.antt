@@ -1,8 +1,7 @@
 -- Counted lists are exact whatever their elements are, and what a loop over the elements needs to know.
 use Rattle.std.proofs.lemmas.Grind.{common_steps}
-use Rattle.std.proofs.Common.{◌≡◌, ℕ, zero, suc, ◌+◌, ◌-◌, ◌*◌, ◌^◌, ◌<◌, ◌≤◌, List, [], ◌∷◌, ◌++◌, length, get_or, take, drop, Some, None, Option, sym, refl, ap, ◌∙◌, subst, append_assoc, suc-add, mul-zero, mul-suc, arith, length-append}
+use Rattle.std.proofs.Common.{◌≡◌, ℕ, zero, suc, ◌+◌, ◌-◌, ◌*◌, ◌^◌, ◌<◌, ◌≤◌, List, [], ◌∷◌, ◌++◌, length, Some, None, Option, sym, refl, ap, ◌∙◌, subst, append_assoc, suc-add, mul-zero, mul-suc, arith, length-append}
 use Rattle.std.specs.List.{flat_map, AllByRecursion}
-use Rattle.std.proofs.lemmas.List.{drop_at, drop-drop}
 use Rattle.xdr.specs.Layout.{counted}
 use Rattle.xdr.specs.Laws.{Bytes, Exact}
 use Rattle.xdr.specs.Reading.{and_then, times_from, list_from}
@@ -85,15 +84,10 @@ pub length-joined : {X : Type 0} (each : X → List ℕ) (width : ℕ) (xs : Lis
 length-joined each width [] h = sym (mul-zero width)
 length-joined each width (x ∷ xs) h = rw length-append (omega (arith, h.0, length-joined each width xs h.1, mul-suc width (length xs)))
 
-pub length-counted : {X : Type 0} (each : X → List ℕ) (width : ℕ) (xs : List X) → AllByRecursion (λ x. length (each x) ≡ width) xs → length (counted each xs) ≡ 4 + width * length xs
+-- how long a counted list is
+pub length-counted_any : {X : Type 0} (each : X → List ℕ) (xs : List X) → length (counted each xs) ≡ 4 + length (flat_map each xs)
 unfolding counted
-length-counted each width xs h = omega (arith, length-joined each width xs h)
+length-counted_any each xs = omega arith
 
--- the element at a place, where each has the same width
-pub element_at : {X : Type 0} (each : X → List ℕ) (width : ℕ) (xs : List X) (i : ℕ) (d : X) → AllByRecursion (λ x. length (each x) ≡ width) xs → i < length xs → take width (drop (width * i) (flat_map each xs)) ≡ each (get_or xs i d)
-element_at each width [] i d h l = absurd (omega arith)
-element_at each width (x ∷ xs) zero d h l = grind (arith, common_steps)
-element_at each width (x ∷ xs) (suc i) d h l =
-    let more : width * suc i ≡ width + width * i = omega (arith, mul-suc width i) in
-    let behind : drop (width + width * i) (each x ++ flat_map each xs) ≡ drop (width * i) (flat_map each xs) = sym (drop-drop (width * i) width (each x ++ flat_map each xs)) ∙ ap (drop (width * i)) (drop_at (each x) (flat_map each xs) width h.0) in
-    rw (more, behind) (element_at each width xs i d h.1 (omega arith))
+pub length-counted : {X : Type 0} (each : X → List ℕ) (width : ℕ) (xs : List X) → AllByRecursion (λ x. length (each x) ≡ width) xs → length (counted each xs) ≡ 4 + width * length xs
+length-counted each width xs h = omega (arith, length-joined each width xs h, length-counted_any each xs)
