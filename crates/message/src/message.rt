@@ -11,7 +11,7 @@ use super::view_change::ViewChange;
 use counter::Statement;
 use parts::{
     CHECKPOINT, COMMIT, Checkpoint, Commit, Delivered, NEW_VIEW, PREPARE, Prepare, VIEW_CHANGE,
-    read_whole,
+    read_whole, split_type,
 };
 use terms::{GroupSize, Refusal, TAG_BYTES};
 
@@ -96,10 +96,8 @@ impl<'a> Message<'a> {
 fn read_by_type(bytes: &[u8]) -> Option<Message<'_>>
     ensures { result ≡ decode bytes.now }
 {
-    let [a, b, c, d, rest @ ..] = bytes else {
-        return None;
-    };
-    match u32::from_be_bytes([*a, *b, *c, *d]) {
+    let (kind, rest) = split_type(bytes)?;
+    match kind {
         PREPARE => Some(Message::Prepare(read_whole(bytes, rest)?)),
         COMMIT => Some(Message::Commit(read_whole(bytes, rest)?)),
         CHECKPOINT => Some(Message::Checkpoint(read_whole(bytes, rest)?)),

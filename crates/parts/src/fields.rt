@@ -1,6 +1,7 @@
 // What messages of several kinds begin with or contain, and the numbers that their code shares.
-ghost use Rattle.std.specs.Prelude.{◌≡◌};
-ghost use Rattle.parts.specs.Reading.{request_of};
+ghost use Rattle.std.specs.Prelude.{◌≡◌, ◌+◌, ◌≤◌};
+ghost use Rattle.terms.specs.Numbers.{request_bytes};
+ghost use Rattle.parts.specs.Reading.{int_at, request_of};
 
 use terms::{REQUEST_BYTES, Request};
 
@@ -27,33 +28,24 @@ pub const NEW_VIEW: u32 = 5;
 pub fn request_of(bytes: &[u8; REQUEST_BYTES]) -> Request
     ensures { result ≡ request_of bytes.now }
 {
-    let [
-        c0,
-        c1,
-        c2,
-        c3,
-        s0,
-        s1,
-        s2,
-        s3,
-        d0,
-        d1,
-        d2,
-        d3,
-        k0,
-        k1,
-        k2,
-        k3,
-        v0,
-        v1,
-        v2,
-        v3,
-    ] = *bytes;
     Request {
-        client: u32::from_be_bytes([c0, c1, c2, c3]),
-        sequence: u32::from_be_bytes([s0, s1, s2, s3]),
-        code: u32::from_be_bytes([d0, d1, d2, d3]),
-        key: u32::from_be_bytes([k0, k1, k2, k3]),
-        value: u32::from_be_bytes([v0, v1, v2, v3]),
+        client: int_at(bytes, 0),
+        sequence: int_at(bytes, 4),
+        code: int_at(bytes, 8),
+        key: int_at(bytes, 12),
+        value: int_at(bytes, 16),
     }
+}
+
+// The number at a place.
+fn int_at(bytes: &[u8; REQUEST_BYTES], place: usize) -> u32
+    requires { place + 4 ≤ request_bytes }
+    ensures { result ≡ int_at bytes.now place }
+{
+    u32::from_be_bytes([
+        bytes[place],
+        bytes[place + 1],
+        bytes[place + 2],
+        bytes[place + 3],
+    ])
 }
