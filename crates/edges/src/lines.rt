@@ -1,5 +1,5 @@
 // The lines: each makes the calls of one edge and says what they answered.
-use anyhow::Context;
+use anyhow::{Context, bail};
 use counter::{Counter, Kind, Seat};
 use counters::HmacCounter;
 use drafts::{NewViewDraft, ViewChangeDraft, write};
@@ -104,7 +104,9 @@ fn write_bare_view_change(sender: u32, out: &mut [u8]) -> anyhow::Result<()> {
 
 // How many bytes the NEW-VIEW has that shows two such VIEW-CHANGEs.
 fn bare_new_view_len(mail: &[u8]) -> anyhow::Result<usize> {
-    let (first, second) = mail.split_at_checked(SHORTEST_VIEW_CHANGE).context("two VIEW-CHANGEs")?;
+    let (first, second) = mail
+        .split_at_checked(SHORTEST_VIEW_CHANGE)
+        .context("two VIEW-CHANGEs")?;
     let new_view = NewViewDraft {
         view: View(1),
         changes: &[view_change(first)?, view_change(second)?],
@@ -117,6 +119,6 @@ fn bare_new_view_len(mail: &[u8]) -> anyhow::Result<usize> {
 fn view_change(bytes: &[u8]) -> anyhow::Result<ViewChange<'_>> {
     match Message::read(bytes)? {
         Message::ViewChange(change) => Ok(change),
-        _ => Err(Refusal::NoMessage.into()),
+        _ => bail!("not a VIEW-CHANGE"),
     }
 }

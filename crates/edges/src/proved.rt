@@ -1,11 +1,9 @@
 // The edges as a statement about the rules.
-ghost use Rattle.std.specs.Prelude.{◌≡◌};
 ghost use Rattle.edges.specs.Edges.{Edges};
 
-/// How many edges are proved of the definitions that the calls are proved to follow. The contract holds them all.
-pub fn proved_edges() -> u32
-    ensures count { result ≡ 6 }
-    ensures edges { Edges }
-{
-    6
-}
+/// All edges are proved of the definitions that the calls are proved to follow. There is nothing to run: the contract
+/// holds them.
+#[tactic(auto, using(crate::proofs::Shown::edges_hold))]
+pub fn proved_edges()
+    ensures { Edges }
+{}

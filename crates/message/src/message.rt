@@ -26,11 +26,13 @@ pub enum Message<'a> {
 }
 
 impl<'a> Message<'a> {
-    /// The message that bytes are, or refusal 5. Bytes are a message exactly if they are its encoding.
-    #[tactic(auto, using(crate::proofs::Decoding::messages_exact))]
+    /// The message that bytes are, or refusal 5. Bytes are a message exactly if they are its encoding, and how many
+    /// they are follows from what it says.
+    #[tactic(auto, using(crate::proofs::Decoding::messages_exact, crate::proofs::Sizes::message_sizes))]
     pub fn read(bytes: &'a [u8]) -> Result<Message<'a>, Refusal>
         ensures value { result ≡ ok_or (decode bytes.now) NoMessage }
         ensures exact { MessagesExact }
+        ensures sizes { MessageSizes }
     {
         read_by_type(bytes).ok_or(Refusal::NoMessage)
     }
@@ -48,12 +50,10 @@ impl<'a> Message<'a> {
         }
     }
 
-    /// The bytes of the whole message. How many they are follows from what the message holds.
-    #[tactic(auto, using(crate::proofs::Sizes::message_sizes))]
+    /// The bytes of the whole message, which is within its limits.
     pub fn bytes(&self) -> &'a [u8]
         ensures value { result.now ≡ encode self.now }
         ensures fits { MessageFits self.now }
-        ensures sizes { MessageSizes }
     {
         match self {
             Message::Prepare(prepare) => prepare.bytes(),
@@ -96,8 +96,8 @@ impl<'a> Message<'a> {
 fn read_by_type(bytes: &[u8]) -> Option<Message<'_>>
     ensures { result ≡ decode bytes.now }
 {
-    let (kind, rest) = split_type(bytes)?;
-    match kind {
+    let (found, rest) = split_type(bytes)?;
+    match found {
         PREPARE => Some(Message::Prepare(read_whole(bytes, rest)?)),
         COMMIT => Some(Message::Commit(read_whole(bytes, rest)?)),
         CHECKPOINT => Some(Message::Checkpoint(read_whole(bytes, rest)?)),

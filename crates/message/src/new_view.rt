@@ -1,4 +1,4 @@
-// NEW-VIEW: the leader of a new view shows a quorum that asks for it, and proposes again what may have been carried out.
+// NEW-VIEW: the leader of a new view shows a quorum that asks for it, and proposes again what they show.
 use super::view_change::ViewChanges;
 use counter::{Kind, Statement};
 use parts::{Delivered, NEW_VIEW, Prepares, VIEW_COUNTER, before, untagged};

@@ -134,7 +134,7 @@ impl<'a> ViewChanges<'a> {
     pub fn len(&self) -> usize
         ensures { result ≡ length self.now }
     {
-        self.list.count as usize
+        self.list.len()
     }
 
     /// The one at a place from 0 on, if there is one.

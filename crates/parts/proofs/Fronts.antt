@@ -5,13 +5,13 @@ use Rattle.terms.specs.Numbers.{tag_bytes}
 use Rattle.xdr.specs.Laws.{Exact}
 use Rattle.xdr.proofs.Exactness.{bytes_from_places}
 use Rattle.parts.specs.Messages.{Prepare, Commit, Checkpoint}
-use Rattle.parts.specs.Encoding.{Tagged}
+use Rattle.parts.specs.Encoding.{TaggedBytes}
 use Rattle.parts.specs.Fits.{PrepareStands, CommitStands, CheckpointStands}
 use Rattle.parts.specs.Reading.{prepare_from, commit_from, checkpoint_from}
 use Rattle.parts.proofs.Exactness.{prepares_exact, commits_exact, checkpoints_exact}
 
 -- a message's bytes up to its tag
-pub without_tag : (part bytes body tag : List ℕ) → Tagged bytes body tag → part ≡ take (length bytes - tag_bytes) bytes → part ≡ body
+pub without_tag : (part bytes body tag : List ℕ) → TaggedBytes bytes body tag → part ≡ take (length bytes - tag_bytes) bytes → part ≡ body
 without_tag part bytes body tag whole is =
     let short : length bytes - tag_bytes ≡ length body = omega (arith, ap length whole.0, length-append body tag, whole.1) in
     is ∙ rw (short, whole.0) (take_at body tag (length body) refl)

@@ -9,7 +9,7 @@ use Rattle.parts.specs.Lists.{items_then, items_from}
 
 module _ {M : Type 0} (read : List ℕ → Option (M × List ℕ)) where
   -- what was read one by one is all that can be read, and as many
-  pub items_are : (n : ℕ) (bytes : List ℕ) (xs : List M) (rest : List ℕ) → times_from read n bytes ≡ Some (xs, rest) → (items_from read n bytes ≡ xs) × (length xs ≡ n)
+  items_are : (n : ℕ) (bytes : List ℕ) (xs : List M) (rest : List ℕ) → times_from read n bytes ≡ Some (xs, rest) → (items_from read n bytes ≡ xs) × (length xs ≡ n)
   unfolding times_from items_from
   items_are zero bytes xs rest e = grind (arith, common_steps)
   items_are (suc n) bytes xs rest e =
@@ -33,11 +33,11 @@ module _ {M : Type 0} (read : List ℕ → Option (M × List ℕ)) where
   none_behind n place bytes behind = sym (slice_get_past (items_from read n bytes) place (omega (arith, items_few n bytes)))
 
   -- one more is read, or the bytes end
-  pub items_next : (n : ℕ) (bytes : List ℕ) (x : M) (rest : List ℕ) → Some (x, rest) ≡ read bytes → items_from read (suc n) bytes ≡ x ∷ items_from read n rest
+  items_next : (n : ℕ) (bytes : List ℕ) (x : M) (rest : List ℕ) → Some (x, rest) ≡ read bytes → items_from read (suc n) bytes ≡ x ∷ items_from read n rest
   unfolding items_from
   items_next n bytes x rest e = ap (λ o. items_then o (items_from read n)) (sym e)
 
-  pub items_end : (n : ℕ) (bytes : List ℕ) → None ≡ read bytes → items_from read n bytes ≡ []
+  items_end : (n : ℕ) (bytes : List ℕ) → None ≡ read bytes → items_from read n bytes ≡ []
   unfolding items_from
   items_end zero bytes e = refl
   items_end (suc n) bytes e = ap (λ o. items_then o (items_from read n)) (sym e)

@@ -26,8 +26,8 @@ unfoldable pub encode_request : Request → List ℕ
 encode_request r = int r.client ++ int r.sequence ++ int r.code ++ int r.key ++ int r.value
 
 -- bytes are a message without its tag, and the tag
-abbrev pub Tagged : List ℕ → List ℕ → List ℕ → Type 0
-Tagged bytes body tag = (bytes ≡ body ++ fixed tag) × (length tag ≡ tag_bytes)
+abbrev pub TaggedBytes : List ℕ → List ℕ → List ℕ → Type 0
+TaggedBytes bytes body tag = (bytes ≡ body ++ fixed tag) × (length tag ≡ tag_bytes)
 
 -- each message without its tag, and whole
 unfoldable pub untagged_prepare : Prepare → List ℕ

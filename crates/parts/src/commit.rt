@@ -14,8 +14,8 @@ pub struct Commit<'a> {
     pub sender: u32,
     pub view: View,
     pub order: Order,
-    pub request: &'a [u8; REQUEST_BYTES],
     pub tag: &'a [u8; TAG_BYTES],
+    request: &'a [u8; REQUEST_BYTES],
     bytes: &'a [u8],
 }
 
@@ -75,8 +75,8 @@ impl<'a> Delivered<'a> for Commit<'a> {
             sender,
             view: View(view),
             order: Order(order),
-            request,
             tag,
+            request,
             bytes: before(bytes, rest),
         };
         Some((commit, rest))

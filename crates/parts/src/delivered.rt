@@ -49,11 +49,11 @@ pub trait Delivered<'a>: Sized + Drop {
 }
 
 // Reads a message of one kind from the front of bytes: a message in another one.
-pub fn read_nested<'a, M: Delivered<'a>>(bytes: &'a [u8]) -> Option<(M, &'a [u8])>
+pub(crate) fn read_nested<'a, M: Delivered<'a>>(bytes: &'a [u8]) -> Option<(M, &'a [u8])>
     ensures { option_map value_and_rest result ≡ of_type M.Delivered.number M.Delivered.rest_from bytes.now }
 {
-    let (kind, rest) = split_type(bytes)?;
-    if kind != M::type_number() {
+    let (found, rest) = split_type(bytes)?;
+    if found != M::type_number() {
         return None;
     }
     M::read_rest(bytes, rest)
@@ -71,7 +71,7 @@ pub fn read_whole<'a, M: Delivered<'a>>(bytes: &'a [u8], rest: &'a [u8]) -> Opti
     Some(message)
 }
 
-// The type that begins bytes, and the rest.
+// The type that begins bytes, and the rest, which is read by that type.
 pub fn split_type(bytes: &[u8]) -> Option<(u32, &[u8])>
     ensures { option_map value_and_rest result ≡ int_from bytes.now }
 {

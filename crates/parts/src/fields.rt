@@ -12,20 +12,20 @@ pub const CHECKPOINT_COUNTER: u32 = 1;
 /// The counter that certifies NEW-VIEWs.
 pub const VIEW_COUNTER: u32 = 2;
 
-// The types of messages.
+/// The type of a PREPARE.
 pub const PREPARE: u32 = 1;
-
+/// The type of a COMMIT.
 pub const COMMIT: u32 = 2;
-
+/// The type of a CHECKPOINT.
 pub const CHECKPOINT: u32 = 3;
-
+/// The type of a VIEW-CHANGE.
 pub const VIEW_CHANGE: u32 = 4;
-
+/// The type of a NEW-VIEW.
 pub const NEW_VIEW: u32 = 5;
 
 // The request whose bytes these are: five numbers.
 #[tactic(auto, unfolding(crate::specs::Reading::request_of))]
-pub fn request_of(bytes: &[u8; REQUEST_BYTES]) -> Request
+pub(crate) fn request_of(bytes: &[u8; REQUEST_BYTES]) -> Request
     ensures { result ≡ request_of bytes.now }
 {
     Request {

@@ -10,10 +10,10 @@ mod prepare;
 
 pub use checkpoint::{Checkpoint, Checkpoints};
 pub use commit::Commit;
-pub use delivered::{Delivered, before, read_nested, read_whole, split_type, untagged};
+pub use delivered::{Delivered, before, read_whole, split_type, untagged};
 pub use fields::{
     CHECKPOINT, CHECKPOINT_COUNTER, COMMIT, NEW_VIEW, ORDER_COUNTER, PREPARE, VIEW_CHANGE,
-    VIEW_COUNTER, request_of,
+    VIEW_COUNTER,
 };
 pub use nested::Nested;
 pub use prepare::{Prepare, Prepares};

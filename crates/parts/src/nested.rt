@@ -11,7 +11,7 @@ use xdr::read_count;
 // How many messages there are, and the bytes in which they stand.
 #[derive(Clone, Copy)]
 pub struct Nested<'a> {
-    pub count: u32,
+    count: u32,
     bytes: &'a [u8],
 }
 
@@ -28,6 +28,13 @@ impl<'a> Nested<'a> {
             rest = behind;
         }
         Some((Nested { count, bytes }, rest))
+    }
+
+    // How many messages there are.
+    pub fn len(&self) -> usize
+        ensures { result ≡ self.now.count }
+    {
+        self.count as usize
     }
 
     // The message at a place, if there is one.

@@ -18,8 +18,8 @@ use xdr::{Number, read_opaque};
 pub struct Prepare<'a> {
     pub view: View,
     pub order: Order,
-    pub request: &'a [u8; REQUEST_BYTES],
     pub tag: &'a [u8; TAG_BYTES],
+    request: &'a [u8; REQUEST_BYTES],
     bytes: &'a [u8],
 }
 
@@ -77,8 +77,8 @@ impl<'a> Delivered<'a> for Prepare<'a> {
         let prepare = Prepare {
             view: View(view),
             order: Order(order),
-            request,
             tag,
+            request,
             bytes: before(bytes, rest),
         };
         Some((prepare, rest))
@@ -127,7 +127,7 @@ impl<'a> Prepares<'a> {
     pub fn len(&self) -> usize
         ensures { result ≡ length self.now }
     {
-        self.list.count as usize
+        self.list.len()
     }
 
     /// The one at a place from 0 on, if there is one.
