@@ -1,8 +1,9 @@
 -- The lists of messages that hold others.
-use Rattle.std.proofs.Common.{◌≡◌, ℕ, ◌+◌, ◌*◌, List, ◌++◌, length, map, refl, ap, arith, length-append}
+use Rattle.std.proofs.Common.{◌≡◌, ℕ, ◌+◌, ◌-◌, ◌*◌, List, ◌++◌, length, map, refl, ap, arith, length-append}
 use Rattle.std.specs.List.{flat_map}
 use Rattle.std.proofs.lemmas.List.{length-map}
 use Rattle.std.proofs.lemmas.List.Folds.{flat_map-map}
+use Rattle.terms.specs.Numbers.{int_bytes, hyper_bytes, tag_bytes, prepare_bytes, checkpoint_bytes, shortest_view_change, shortest_new_view}
 use Rattle.xdr.specs.Layout.{int, counted}
 use Rattle.xdr.proofs.Listing.{length-counted, length-counted_any}
 use Rattle.xdr.proofs.Pasting.{length-pasted}
@@ -30,20 +31,20 @@ proof_bytes xs = counted (λ t. encode_checkpoint (kept_checkpoint t)) xs
 abbrev entries_bytes : List (Tagged PrepareDraft) → List ℕ
 entries_bytes xs = counted (λ t. encode_prepare (kept_prepare t)) xs
 
-pub length-proof : (xs : List (Tagged CheckpointDraft)) → length (proof_bytes xs) ≡ 4 + 76 * length xs
-length-proof xs = length-counted _ 76 xs (every _ (λ t. length-checkpoint (kept_checkpoint t) t.draft.whole t.whole) xs)
+pub length-proof : (xs : List (Tagged CheckpointDraft)) → length (proof_bytes xs) ≡ int_bytes + checkpoint_bytes * length xs
+length-proof xs = length-counted _ checkpoint_bytes xs (every _ (λ t. length-checkpoint (kept_checkpoint t) t.draft.whole t.whole) xs)
 
-pub length-entries : (xs : List (Tagged PrepareDraft)) → length (entries_bytes xs) ≡ 4 + 64 * length xs
-length-entries xs = length-counted _ 64 xs (every _ (λ t. length-prepare (kept_prepare t) t.whole) xs)
+pub length-entries : (xs : List (Tagged PrepareDraft)) → length (entries_bytes xs) ≡ int_bytes + prepare_bytes * length xs
+length-entries xs = length-counted _ prepare_bytes xs (every _ (λ t. length-prepare (kept_prepare t) t.whole) xs)
 
 -- a VIEW-CHANGE's parts, and its length
 pub view_change_bytes : (d : ViewChangeDraft) (tag : List ℕ) → untagged_view_change (view_change_with d tag) ≡ view_change_head d ++ proof_bytes d.proof.now ++ entries_bytes d.entries.now
 unfolding untagged_view_change
 view_change_bytes d tag = rw (counted_map encode_checkpoint kept_checkpoint d.proof.now, counted_map encode_prepare kept_prepare d.entries.now) refl
 
-pub length-view_change : (d : ViewChangeDraft) (tag : List ℕ) → length (untagged_view_change (view_change_with d tag)) ≡ 36 + 76 * length d.proof.now + 64 * length d.entries.now
+pub length-view_change : (d : ViewChangeDraft) (tag : List ℕ) → length (untagged_view_change (view_change_with d tag)) ≡ shortest_view_change - tag_bytes + checkpoint_bytes * length d.proof.now + prepare_bytes * length d.entries.now
 length-view_change d tag =
-    let head : length (view_change_head d) ≡ 28 = refl in
+    let head : length (view_change_head d) ≡ 5 * int_bytes + hyper_bytes = refl in
     let proof = length-append (view_change_head d) (proof_bytes d.proof.now) in
     let entries = length-append (view_change_head d ++ proof_bytes d.proof.now) (entries_bytes d.entries.now) in
     omega (arith, head, proof, entries, ap length (view_change_bytes d tag), length-proof d.proof.now, length-entries d.entries.now)
@@ -59,9 +60,9 @@ pub new_view_bytes : (d : NewViewDraft) (tag : List ℕ) → untagged_new_view (
 unfolding untagged_new_view
 new_view_bytes d tag = rw (counted_map encode_prepare kept_prepare d.prepares.now) refl
 
-pub length-new_view : (d : NewViewDraft) (tag : List ℕ) → length (untagged_new_view (new_view_with d tag)) ≡ 16 + length (flat_map encode_view_change d.changes.now) + 64 * length d.prepares.now
+pub length-new_view : (d : NewViewDraft) (tag : List ℕ) → length (untagged_new_view (new_view_with d tag)) ≡ shortest_new_view - tag_bytes + length (flat_map encode_view_change d.changes.now) + prepare_bytes * length d.prepares.now
 length-new_view d tag =
-    let head : length (new_view_head d) ≡ 8 = refl in
+    let head : length (new_view_head d) ≡ 2 * int_bytes = refl in
     let changes = length-append (new_view_head d) (counted encode_view_change d.changes.now) in
     let prepares = length-append (new_view_head d ++ counted encode_view_change d.changes.now) (entries_bytes d.prepares.now) in
     omega (arith, head, changes, prepares, ap length (new_view_bytes d tag), length-counted_any encode_view_change d.changes.now, length-entries d.prepares.now)

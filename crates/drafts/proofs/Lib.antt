@@ -1,5 +1,6 @@
 -- The lemmas that the answers share.
 pub mod Holding
+pub mod Limits
 pub mod Pieces
 pub mod Puts
 pub mod Rows

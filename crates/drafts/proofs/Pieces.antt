@@ -1,6 +1,6 @@
 -- Pieces of any length, one written behind the other.
-use Rattle.std.proofs.Common.{◌≡◌, ℕ, ◌+◌, ◌<◌, ◌≤◌, List, [], ◌++◌, length, get_or, take, sym, refl, ap, ◌∙◌, arith, length-append}
-use Rattle.std.specs.List.{flat_map}
+use Rattle.std.proofs.Common.{◌≡◌, ℕ, ◌+◌, ◌<◌, ◌≤◌, List, [], ◌∷◌, ◌++◌, length, get_or, take, sym, subst, refl, ap, ◌∙◌, arith, length-append}
+use Rattle.std.specs.List.{flat_map, AllByRecursion}
 use Rattle.std.proofs.lemmas.List.{take_all, take_more, flat_map_more}
 use Rattle.std.proofs.lemmas.List.Folds.{length-flat_map-take}
 use Rattle.xdr.proofs.Listing.{length-counted_any}
@@ -8,6 +8,15 @@ use Rattle.xdr.specs.Layout.{int, counted}
 use Rattle.xdr.specs.Writing.{Room, wrote}
 use Rattle.xdr.specs.declared.writer.Writer.{Writer}
 use Rattle.xdr.proofs.Writing.{wrote_more, room_behind}
+
+-- what holds of each of some and of one more
+all_more : {X : Type 0} (P : X → Type 0) (xs : List X) (x : X) → AllByRecursion P xs → P x → AllByRecursion P (xs ++ x ∷ [])
+all_more P [] x all one = (one, tt)
+all_more P (y ∷ ys) x all one = (all.0, all_more P ys x all.1 one)
+
+-- what holds of each of the first i and of the next
+pub all_taken_next : {X : Type 0} (P : X → Type 0) (xs : List X) (i : ℕ) (x : X) → i < length xs → x ≡ get_or xs i x → AllByRecursion P (take i xs) → P x → AllByRecursion P (take (i + 1) xs)
+all_taken_next P xs i x less is all one = rw (take_more xs i x less) (all_more P (take i xs) (get_or xs i x) all (subst P is one))
 
 -- the first i, and the next
 module _ {X : Type 0} (each : X → List ℕ) (xs : List X) (i : ℕ) (x : X) (less : i < length xs) (is : x ≡ get_or xs i x) where

@@ -8,7 +8,7 @@ use Rattle.message.specs.Decoding.{untagged, encode, decode}
 use Rattle.message.specs.Laws.{MessageFits}
 use Rattle.message.specs.declared.message.Message.{Message}
 use Rattle.message.proofs.Decoding.{messages_exact}
-use Rattle.drafts.specs.Laws.{TagApart}
+use Rattle.drafts.specs.Laws.{TagApart, FitsTagged}
 use Rattle.drafts.specs.Limits.{within}
 use Rattle.drafts.specs.Writing.{written, drafted}
 
@@ -40,5 +40,6 @@ module _ (message : List ℕ → Message) (apart : TagApart message) (tag out mi
       rw (whole, number, same) refl
 
   -- which read back as the message
-  pub tag_reads : MessageFits (message tag) → decode (take (n + tag_bytes) (pasted mid n tag)) ≡ Some (message tag)
-  tag_reads fits = reads_back (message tag) out (pasted mid n tag) (n + tag_bytes) fits tag_written
+  pub tag_reads : FitsTagged message → decode (take (n + tag_bytes) (pasted mid n tag)) ≡ Some (message tag)
+  unfolding FitsTagged
+  tag_reads fits = reads_back (message tag) out (pasted mid n tag) (n + tag_bytes) (fits tag long) tag_written

@@ -1,10 +1,10 @@
 -- How long PREPAREs and CHECKPOINTs are.
-use Rattle.std.proofs.Common.{◌≡◌, length, refl, arith, length-append}
+use Rattle.std.proofs.Common.{◌≡◌, ◌-◌, length, refl, arith, length-append}
 use Rattle.terms.specs.Numbers.{digest_bytes, tag_bytes, prepare_bytes, checkpoint_bytes}
 use Rattle.parts.specs.Encoding.{encode_request, untagged_prepare, encode_prepare, untagged_checkpoint, encode_checkpoint}
 use Rattle.parts.specs.Messages.{Prepare, Checkpoint}
 
-pub length-untagged_prepare : (p : Prepare) → length (untagged_prepare p) ≡ 32
+pub length-untagged_prepare : (p : Prepare) → length (untagged_prepare p) ≡ prepare_bytes - tag_bytes
 unfolding encode_request untagged_prepare
 length-untagged_prepare p = refl
 

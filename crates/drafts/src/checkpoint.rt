@@ -1,5 +1,5 @@
 // CHECKPOINT before it is tagged.
-ghost use Rattle.std.specs.Prelude.{◌≡◌, length};
+ghost use Rattle.std.specs.Prelude.{◌≡◌, ◌^◌, ◌<◌, length};
 ghost use Rattle.terms.specs.Numbers.{digest_bytes};
 
 use super::draft::Draft;
@@ -13,17 +13,18 @@ pub struct CheckpointDraft {
     pub sender: u32,
     pub order: Order,
     pub digest: [u8; DIGEST_BYTES],
+    pub ghost narrow: { sender < 2 ^ 32 × order.0 < 2 ^ 32 },
     pub ghost whole: { length digest ≡ digest_bytes },
 }
 
-impl CheckpointDraft {
+/// What a CHECKPOINT that was read says.
+impl From<&Checkpoint<'_>> for CheckpointDraft {
     ghost use Rattle.drafts.specs.Says.{checkpoint_with};
 
-    /// What a CHECKPOINT that was read says.
+    ghost from_gives = { λ checkpoint draft. checkpoint_with draft checkpoint.now.tag ≡ checkpoint.now };
+
     #[tactic(auto, unfolding(parts::specs::Fits::CheckpointStands))]
-    pub fn of(checkpoint: &Checkpoint<'_>) -> CheckpointDraft
-        ensures { checkpoint_with result checkpoint.now.tag ≡ checkpoint.now }
-    {
+    fn from(checkpoint: &Checkpoint<'_>) -> CheckpointDraft {
         CheckpointDraft {
             sender: checkpoint.sender,
             order: checkpoint.order,
@@ -42,8 +43,8 @@ impl Draft for CheckpointDraft {
 
     ghost tag_apart = { λ d. unfold untagged_checkpoint in record { bytes = λ tag. refl; limits = λ tag. refl; last = λ tag. refl } };
 
-    #[tactic(auto, unfolding(parts::specs::Encoding::untagged_checkpoint))]
-    fn len(&self) -> Option<usize> {
+    #[tactic(auto, unfolding(parts::specs::Encoding::untagged_checkpoint, crate::specs::Laws::FitsTagged))]
+    fn untagged_len(&self) -> Option<usize> {
         Some(CHECKPOINT_BYTES - TAG_BYTES)
     }
 

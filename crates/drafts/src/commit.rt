@@ -1,4 +1,7 @@
 // COMMIT before it is tagged.
+ghost use Rattle.std.specs.Prelude.{◌^◌, ◌<◌};
+ghost use Rattle.parts.specs.Fits.{RequestFits};
+
 use super::draft::Draft;
 use super::fields::put_request;
 use parts::COMMIT;
@@ -12,6 +15,7 @@ pub struct CommitDraft {
     pub view: View,
     pub order: Order,
     pub request: Request,
+    pub ghost narrow: { sender < 2 ^ 32 × view.0 < 2 ^ 32 × order.0 < 2 ^ 32 × RequestFits request },
 }
 
 impl Draft for CommitDraft {
@@ -24,8 +28,8 @@ impl Draft for CommitDraft {
 
     ghost tag_apart = { λ d. unfold untagged_commit in record { bytes = λ tag. refl; limits = λ tag. refl; last = λ tag. refl } };
 
-    #[tactic(auto, unfolding(parts::specs::Encoding::untagged_commit, parts::specs::Encoding::encode_request))]
-    fn len(&self) -> Option<usize> {
+    #[tactic(auto, unfolding(parts::specs::Encoding::untagged_commit, parts::specs::Encoding::encode_request, crate::specs::Laws::FitsTagged))]
+    fn untagged_len(&self) -> Option<usize> {
         Some(COMMIT_BYTES - TAG_BYTES)
     }
 

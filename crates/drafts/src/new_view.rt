@@ -1,4 +1,6 @@
 // NEW-VIEW before it is tagged.
+ghost use Rattle.std.specs.Prelude.{◌^◌, ◌<◌};
+
 use super::changes::{changes_len, put_changes};
 use super::draft::Draft;
 use super::lists::put_list;
@@ -16,6 +18,7 @@ pub struct NewViewDraft<'a> {
     /// The quorum that asks for the view.
     pub changes: &'a [ViewChange<'a>],
     pub prepares: &'a [Tagged<PrepareDraft>],
+    pub ghost narrow: { view.0 < 2 ^ 32 },
 }
 
 impl Draft for NewViewDraft<'_> {
@@ -28,8 +31,8 @@ impl Draft for NewViewDraft<'_> {
 
     ghost tag_apart = { λ d. unfold untagged_new_view in record { bytes = λ tag. refl; limits = λ tag. refl; last = λ tag. refl } };
 
-    #[tactic(auto, using(crate::proofs::Holding::new_views))]
-    fn len(&self) -> Option<usize> {
+    #[tactic(auto, using(crate::proofs::Holding::new_views, crate::proofs::Limits::new_view_fits))]
+    fn untagged_len(&self) -> Option<usize> {
         if self.prepares.len() > WINDOW as usize {
             return None;
         }

@@ -1,4 +1,7 @@
 // PREPARE before it is tagged.
+ghost use Rattle.std.specs.Prelude.{◌^◌, ◌<◌};
+ghost use Rattle.parts.specs.Fits.{RequestFits};
+
 use super::draft::Draft;
 use super::fields::put_request;
 use parts::{PREPARE, Prepare};
@@ -11,16 +14,18 @@ pub struct PrepareDraft {
     pub view: View,
     pub order: Order,
     pub request: Request,
+    pub ghost narrow: { view.0 < 2 ^ 32 × order.0 < 2 ^ 32 × RequestFits request },
 }
 
-impl PrepareDraft {
+/// What a PREPARE that was read says.
+impl From<&Prepare<'_>> for PrepareDraft {
     ghost use Rattle.std.specs.Prelude.{◌≡◌};
     ghost use Rattle.drafts.specs.Says.{prepare_with};
 
-    /// What a PREPARE that was read says.
-    pub fn of(prepare: &Prepare<'_>) -> PrepareDraft
-        ensures { prepare_with result prepare.now.tag ≡ prepare.now }
-    {
+    ghost from_gives = { λ prepare draft. prepare_with draft prepare.now.tag ≡ prepare.now };
+
+    #[tactic(auto, unfolding(parts::specs::Fits::PrepareStands))]
+    fn from(prepare: &Prepare<'_>) -> PrepareDraft {
         PrepareDraft {
             view: prepare.view,
             order: prepare.order,
@@ -39,8 +44,8 @@ impl Draft for PrepareDraft {
 
     ghost tag_apart = { λ d. unfold untagged_prepare in record { bytes = λ tag. refl; limits = λ tag. refl; last = λ tag. refl } };
 
-    #[tactic(auto, unfolding(parts::specs::Encoding::untagged_prepare, parts::specs::Encoding::encode_request))]
-    fn len(&self) -> Option<usize> {
+    #[tactic(auto, unfolding(parts::specs::Encoding::untagged_prepare, parts::specs::Encoding::encode_request, crate::specs::Laws::FitsTagged))]
+    fn untagged_len(&self) -> Option<usize> {
         Some(PREPARE_BYTES - TAG_BYTES)
     }
 

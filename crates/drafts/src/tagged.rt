@@ -10,7 +10,7 @@ use std::alloc::AllocError;
 use terms::TAG_BYTES;
 use xdr::{Row, Writer};
 
-/// A draft with its tag, as a replica keeps what it was sent.
+/// A draft with its tag: so a replica keeps the PREPAREs and CHECKPOINTs that it was sent.
 #[derive(Copy, PartialEq, Eq, Debug)]
 pub struct Tagged<D> {
     pub draft: D,
@@ -18,6 +18,7 @@ pub struct Tagged<D> {
     pub ghost whole: { length tag ≡ tag_bytes },
 }
 
+// By hand: it is not derived for a struct with a ghost field and a type parameter.
 impl<D: Copy> Clone for Tagged<D> {
     ghost use Rattle.std.specs.Prelude.{⊤};
 
@@ -30,31 +31,31 @@ impl<D: Copy> Clone for Tagged<D> {
     }
 }
 
-impl Tagged<PrepareDraft> {
+/// A PREPARE that was read, to keep.
+impl From<&Prepare<'_>> for Tagged<PrepareDraft> {
     ghost use Rattle.drafts.specs.Says.{kept_prepare};
 
-    /// A PREPARE that was read, to keep.
+    ghost from_gives = { λ prepare kept. kept_prepare kept ≡ prepare.now };
+
     #[tactic(auto, unfolding(parts::specs::Fits::PrepareStands))]
-    pub fn kept(prepare: &Prepare<'_>) -> Tagged<PrepareDraft>
-        ensures { kept_prepare result ≡ prepare.now }
-    {
+    fn from(prepare: &Prepare<'_>) -> Tagged<PrepareDraft> {
         Tagged {
-            draft: PrepareDraft::of(prepare),
+            draft: PrepareDraft::from(prepare),
             tag: *prepare.tag,
         }
     }
 }
 
-impl Tagged<CheckpointDraft> {
+/// A CHECKPOINT that was read, to keep.
+impl From<&Checkpoint<'_>> for Tagged<CheckpointDraft> {
     ghost use Rattle.drafts.specs.Says.{kept_checkpoint};
 
-    /// A CHECKPOINT that was read, to keep.
+    ghost from_gives = { λ checkpoint kept. kept_checkpoint kept ≡ checkpoint.now };
+
     #[tactic(auto, unfolding(parts::specs::Fits::CheckpointStands))]
-    pub fn kept(checkpoint: &Checkpoint<'_>) -> Tagged<CheckpointDraft>
-        ensures { kept_checkpoint result ≡ checkpoint.now }
-    {
+    fn from(checkpoint: &Checkpoint<'_>) -> Tagged<CheckpointDraft> {
         Tagged {
-            draft: CheckpointDraft::of(checkpoint),
+            draft: CheckpointDraft::from(checkpoint),
             tag: *checkpoint.tag,
         }
     }

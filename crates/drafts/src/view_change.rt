@@ -1,4 +1,6 @@
 // VIEW-CHANGE before it is tagged.
+ghost use Rattle.std.specs.Prelude.{◌^◌, ◌<◌};
+
 use super::checkpoint::CheckpointDraft;
 use super::draft::Draft;
 use super::lists::put_list;
@@ -25,17 +27,18 @@ pub struct ViewChangeDraft<'a> {
     pub low: Order,
     pub proof: &'a [Tagged<CheckpointDraft>],
     pub entries: &'a [Tagged<PrepareDraft>],
+    pub ghost narrow: { sender < 2 ^ 32 × target.0 < 2 ^ 32 × previous < 2 ^ 64 × from.0 < 2 ^ 32 × low.0 < 2 ^ 32 },
 }
 
 impl ViewChangeDraft<'_> {
-    ghost use Rattle.std.specs.Prelude.{◌≡◌};
+    ghost use Rattle.std.specs.Prelude.{◌≡◌, length};
     ghost use Rattle.xdr.specs.Writing.{Room, wrote};
     ghost use Rattle.drafts.specs.Says.{view_change_head};
 
     // Writes what stands before its lists.
     #[tactic(auto, using(crate::proofs::Puts::puts))]
     fn put_head(&self, writer: &mut Writer<'_>)
-        requires { Room writer.old 28 }
+        requires { Room writer.old (length (view_change_head self.now)) }
         ensures { writer.new ≡ wrote writer.old (view_change_head self.now) }
     {
         writer.put_rows(&[VIEW_CHANGE, self.sender, self.target.0]);
@@ -54,8 +57,8 @@ impl Draft for ViewChangeDraft<'_> {
 
     ghost tag_apart = { λ d. unfold untagged_view_change in record { bytes = λ tag. refl; limits = λ tag. refl; last = λ tag. refl } };
 
-    #[tactic(auto, using(crate::proofs::Holding::view_changes))]
-    fn len(&self) -> Option<usize> {
+    #[tactic(auto, using(crate::proofs::Holding::view_changes, crate::proofs::Limits::view_change_fits))]
+    fn untagged_len(&self) -> Option<usize> {
         if self.proof.len() > LARGEST_QUORUM as usize || self.entries.len() > WINDOW as usize {
             return None;
         }
