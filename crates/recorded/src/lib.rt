@@ -63,7 +63,7 @@ mod tests {
         assert_eq!(rt; prepare.view, View(2));
         assert_eq!(rt; prepare.order, Order(5));
         assert_eq!(rt; prepare.request().value, 600);
-        let draft = PrepareDraft::of(&prepare);
+        let draft = PrepareDraft::from(&prepare);
         let mut out = [0; PREPARE_BYTES];
         let tag = prepare.tag;
         let length = write(&draft, tag, &mut out);
