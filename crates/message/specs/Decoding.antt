@@ -13,12 +13,13 @@ use Rattle.message.specs.Statements.{view_change_says, new_view_says}
 use Rattle.message.specs.declared.message.Message.{Message}
 use Rattle.message.specs.declared.message.Message.TheVariants.{Prepare, Commit, Checkpoint, ViewChange, NewView}
 
+-- the number of its type
 abbrev pub type_number : Message → ℕ
-type_number (Prepare p) = prepare_type
-type_number (Commit c) = commit_type
-type_number (Checkpoint c) = checkpoint_type
-type_number (ViewChange c) = view_change_type
-type_number (NewView n) = new_view_type
+type_number (Prepare p) = 1
+type_number (Commit c) = 2
+type_number (Checkpoint c) = 3
+type_number (ViewChange c) = 4
+type_number (NewView n) = 5
 
 -- a message without its tag
 abbrev pub untagged : Message → List ℕ
