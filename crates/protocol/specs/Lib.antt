@@ -1,0 +1,22 @@
+-- The rules of the replica, runs of a group, and what is promised of them.
+pub mod Accept
+pub mod Again
+pub mod Agreement
+pub mod Ask
+pub mod CarryOut
+pub mod Changes
+pub mod Examples
+pub mod Mark
+pub mod Meanings
+pub mod Open
+pub mod Outcomes
+pub mod Refusals
+pub mod Replicas
+pub mod Runs
+pub mod Sets
+pub mod Showings
+pub mod Standing
+pub mod Suspect
+pub mod Take
+pub mod Telling
+pub mod Vote
