@@ -1,2 +1,4 @@
 -- The edges, proved.
 mod Shown
+-- The edge of VIEW-CHANGEs.
+mod Votes

@@ -1,4 +1,4 @@
-// Shows the edges of the rules by the calls themselves, one line for each.
+// Shows the edges of the rules by the calls that there are, one line for each.
 #![tactic(auto)]
 
 mod lines;
