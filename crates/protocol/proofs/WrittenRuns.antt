@@ -126,15 +126,15 @@ unfolding asked taken voted carried_out marked settled decode pasted encode_requ
 low_moves = (marked_by_both, may_happen marked_by_both refl, refl, refl, refl, refl, refl, refl, refl, refl, refl, refl)
 
 -- the VIEW-CHANGE of a seat for view 1, after a first value of its counter
-abbrev change : ℕ → ℕ → List Proposal → Change
-change seat previous entries = record { sender = seat; target = 1; previous = previous; from = 0; low = 0; proof = []; entries = entries; tag = zeros }
+abbrev view_change_by : ℕ → ℕ → List Proposal → Change
+view_change_by seat previous entries = record { sender = seat; target = 1; previous = previous; from = 0; low = 0; proof = []; entries = entries; tag = zeros }
 
 abbrev suspected_to : ℕ → Change → Event
 suspected_to seat c = At seat (Take (encode (ViewChange c)))
 
 -- seat 1 opens view 1 with the VIEW-CHANGEs of both
 abbrev opening : Opening
-opening = record { view = 1; changes = change 0 1 (proposal 0 1 ∷ []) ∷ change 1 1 (proposal 0 1 ∷ []) ∷ []; prepares = proposal 1 1 ∷ []; tag = zeros }
+opening = record { view = 1; changes = view_change_by 0 1 (proposal 0 1 ∷ []) ∷ view_change_by 1 1 (proposal 0 1 ∷ []) ∷ []; prepares = proposal 1 1 ∷ []; tag = zeros }
 
 abbrev before_the_change : List Event
 before_the_change =
@@ -152,10 +152,10 @@ after_the_change =
     ∷ At 0 (Suspect room)
     ∷ At 0 (Ask (request 2) room)
     ∷ At 1 (Open room)
-    ∷ suspected_to 1 (change 0 1 (proposal 0 1 ∷ []))
+    ∷ suspected_to 1 (view_change_by 0 1 (proposal 0 1 ∷ []))
     ∷ At 1 (Open room)
     ∷ At 0 (Take (encode (NewView opening)))
-    ∷ suspected_to 0 (change 1 1 (proposal 0 1 ∷ []))
+    ∷ suspected_to 0 (view_change_by 1 1 (proposal 0 1 ∷ []))
     ∷ proposed_to 0 (proposal 0 1)
     ∷ At 0 (Cast room)
     ∷ At 0 CarryOut
@@ -200,8 +200,8 @@ quorum_held_by_1 =
     ∷ At 0 (Suspect room)
     ∷ At 1 (Suspect room)
     ∷ At 1 (Suspect room)
-    ∷ suspected_to 1 (change 1 0 [])
-    ∷ suspected_to 1 (change 0 1 (proposal 0 1 ∷ []))
+    ∷ suspected_to 1 (view_change_by 1 0 [])
+    ∷ suspected_to 1 (view_change_by 0 1 (proposal 0 1 ∷ []))
     ∷ []
 
 -- what seat 1 then tells for view 2
