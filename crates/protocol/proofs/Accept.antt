@@ -22,7 +22,7 @@ use Rattle.protocol.proofs.Highest.{highest_least}
 use Rattle.protocol.proofs.History.{Group, Past, InTurn, Prepared, Backed, Proved, Accepted}
 use Rattle.protocol.proofs.Lists.{in_either, in_drop, in_map, in_filter}
 use Rattle.protocol.proofs.Places.{placed_nothing}
-use Rattle.protocol.proofs.Seats.{NotAhead, shows_on, EntryOk, HeldOk, ChangesOk, Holds, led_ok, wider}
+use Rattle.protocol.proofs.Seats.{NotAhead, Stays, shows_on, EntryOk, HeldOk, ChangesOk, Holds, led_ok, wider}
 use Rattle.protocol.proofs.Tests.{same_proposals_told, Judged}
 use Rattle.protocol.proofs.Turns.{above, turn_view, turn_cut, proposals_with_vote}
 
@@ -130,26 +130,16 @@ module _ (g : Group) (h : Past) {St : Type 0} (r : Replica St) (H : Holds g h r)
       let kept = above r.low w.prepares in
       subst (λ ps. top_of w ≤ last_order r.low ps) (sym (proposals_with_vote (leader_of r.size w.view) kept)) (turn_cut w.view (low_of w) r.low w.prepares run l).1
 
--- what accepting leaves as it was, and where its PREPAREs come from
+-- what accepting leaves besides, and where its PREPAREs come from
 pub record Entered {St : Type 0} (r q : Replica St) (w : NewView) : Type 0 where
-  pub size : q.size ≡ r.size
-  pub seat : q.seat ≡ r.seat
-  pub rule : q.rule ≡ r.rule
-  pub values : q.values ≡ r.values
+  pub stays : Stays r q
   pub view : q.view ≡ max r.view w.view
-  pub count : q.count ≡ r.count
-  pub state : q.state ≡ r.state
   pub entries : (p : Prepare) → p ∈ proposals q.entries → p ∈ w.prepares
 
 pub entered : {St : Type 0} (r : Replica St) (w : NewView) → Entered r (accepted r w) w
 unfolding accepted
 entered r w = record {
-  size = refl;
-  seat = refl;
-  rule = refl;
-  values = refl;
+  stays = record { size = refl; seat = refl; rule = refl; values = refl; count = refl; state = refl };
   view = refl;
-  count = refl;
-  state = refl;
   entries = λ p m. (in_filter _ p w.prepares (subst (λ ps. p ∈ ps) (proposals_with_vote (leader_of r.size w.view) (above r.low w.prepares)) m)).0;
 }

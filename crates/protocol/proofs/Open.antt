@@ -165,15 +165,15 @@ module _ (g : Group) {St : Type 0} (M : Meaning St) (start : St) (rule : Stated 
           fine_open =
               let e = entered r w in
               fine_on g M start rule h seat r (after_open r w) y opened_past (standing_in (NewView w)) w.view F opened_longer
-              (record { size = e.size; seat = e.seat; rule = e.rule })
+              (record { size = e.stays.size; seat = e.stays.seat; rule = e.stays.rule })
               (holds_entered g opened_past r (holds_grows g h opened_past opened_longer r F.holds) w G.some refl (inl refl) opening_accepted.0 opening_accepted.1 F.holds.numbers.view_fits opening_accepted.2)
               (subst (λ n. NotAhead n (accepted r w).view (accepted r w).from (end (accepted r w))) (sym values_open) shows_open)
               (opening_matches g.seats w seat h.log r.values leading opening_view F.matches)
               seen_prepared
               (λ p m. inl (in_right p (flat_map (λ (c : Change). c.entries) w.changes) w.prepares (e.entries p m)))
               (sym e.view)
-              e.count
-              e.state
+              e.stays.count
+              e.stays.state
 
           opens : (out : List ℕ) → length tag ≡ tag_bytes → grants_opening r w ≡ true
               → Kept g M start rule h seat (by_writing y (wrote r.view (NewView w) out (after_open r w) (opening_says g.seats w)))

@@ -280,27 +280,24 @@ ground n rule faulty digest F =
     record { some = omega (arith, leb-true _ _ sized.0); small = leb-true _ _ sized.1; quorum = refl; tags = F.whole_tags; digests = F.whole_digests }
 
 module _ {St : Type 0} (M : Meaning St) where
-  pub group_agrees : GroupAgrees M
-  group_agrees n rule faulty start F es run =
+  -- a run from the beginning keeps it all
+  kept : (n : ℕ) (rule : Stated → List ℕ) (faulty : List ℕ) (start : St) (F : Founding n rule faulty M.digest) (es : List Event) → Run M n rule faulty (beginning n rule start) es
+      → Keeps (group n faulty F.few) M start rule (ground n rule faulty M.digest F) (played M rule (beginning n rule start) es)
+  kept n rule faulty start F es run =
       let g = group n faulty F.few in
       let G = ground n rule faulty M.digest F in
-      agreed g M start rule G _ (keeps_run g M start rule G es _ (keeps_beginning g M start rule G) run)
+      keeps_run g M start rule G es _ (keeps_beginning g M start rule G) run
+
+  pub group_agrees : GroupAgrees M
+  group_agrees n rule faulty start F es run = agreed _ M start rule (ground n rule faulty M.digest F) _ (kept n rule faulty start F es run)
 
   pub later_views_bring : LaterViewsBring M
-  later_views_bring n rule faulty start F es run =
-      let g = group n faulty F.few in
-      let G = ground n rule faulty M.digest F in
-      brought g M start rule G _ (keeps_run g M start rule G es _ (keeps_beginning g M start rule G) run)
+  later_views_bring n rule faulty start F es run = brought _ M start rule (ground n rule faulty M.digest F) _ (kept n rule faulty start F es run)
 
   pub low_marks_tell : LowMarksTell M
-  low_marks_tell n rule faulty start F es run =
-      let g = group n faulty F.few in
-      let G = ground n rule faulty M.digest F in
-      marked g M start rule G _ (keeps_run g M start rule G es _ (keeps_beginning g M start rule G) run)
+  low_marks_tell n rule faulty start F es run = marked _ M start rule (ground n rule faulty M.digest F) _ (kept n rule faulty start F es run)
 
   pub answers_tell : AnswersTell M
   answers_tell n rule faulty start F es run seat ok =
-      let g = group n faulty F.few in
-      let G = ground n rule faulty M.digest F in
-      let K = keeps_run g M start rule G es _ (keeps_beginning g M start rule G) run in
-      told g M start rule G _ K.rules seat ok _ (K.members seat ok)
+      let K = kept n rule faulty start F es run in
+      told _ M start rule (ground n rule faulty M.digest F) _ K.rules seat ok _ (K.members seat ok)

@@ -60,6 +60,15 @@ pub record NumbersOk (view low count : ℕ) : Type 0 where
 abbrev voted_at : ℕ → ℕ → Entry → Entry
 voted_at s o e = if e.proposal.order == o then record { proposal = e.proposal; votes = with_vote s e.votes } else e
 
+-- what moving low and accepting leave as it was: the place in the group, the counter, the count and the service
+pub record Stays {St : Type 0} (r q : Replica St) : Type 0 where
+  pub size : q.size ≡ r.size
+  pub seat : q.seat ≡ r.seat
+  pub rule : q.rule ≡ r.rule
+  pub values : q.values ≡ r.values
+  pub count : q.count ≡ r.count
+  pub state : q.state ≡ r.state
+
 module _ (g : Group) (h : Past) where
   pub record EntryOk (e : Entry) : Type 0 where
     pub prepared : Prepared g h e.proposal

@@ -30,7 +30,7 @@ use Rattle.protocol.proofs.Growth.{Longer, later, later_longer, prepared_grows}
 use Rattle.protocol.proofs.History.{Group, Past, Prepared, Opened, Standing, Cause, Sound, Legal, commit_of}
 use Rattle.protocol.proofs.Keeping.{Told, Founded, Fine, Kept, reached_grows}
 use Rattle.protocol.proofs.Lists.{in_left, in_right, in_either, in_filter}
-use Rattle.protocol.proofs.Seats.{NotAhead, Holds, holds_settled, shows_settled, shows_vote}
+use Rattle.protocol.proofs.Seats.{NotAhead, Stays, Holds, holds_settled, shows_settled, shows_vote}
 use Rattle.protocol.proofs.Turns.{proposals_above}
 use Rattle.protocol.proofs.Values.{Matches}
 
@@ -42,31 +42,21 @@ pub record Ground (g : Group) (rule : Stated → List ℕ) (digest : List ℕ �
   pub tags : (s : Stated) → length (rule s) ≡ tag_bytes
   pub digests : (bytes : List ℕ) → length (digest bytes) ≡ digest_bytes
 
--- what low leaves as it was when it moves
-record Same {St : Type 0} (r q : Replica St) : Type 0 where
-  size : q.size ≡ r.size
-  seat : q.seat ≡ r.seat
-  rule : q.rule ≡ r.rule
-  values : q.values ≡ r.values
+-- what moving low leaves besides, and where its entries come from
+record Settled {St : Type 0} (r q : Replica St) : Type 0 where
+  stays : Stays r q
   view : q.view ≡ r.view
-  count : q.count ≡ r.count
-  state : q.state ≡ r.state
   entries : (p : Prepare) → p ∈ proposals q.entries → p ∈ proposals r.entries
 
-same_settled : {St : Type 0} (r : Replica St) → Same r (settled r)
+after_settling : {St : Type 0} (r : Replica St) → Settled r (settled r)
 unfolding settled
-same_settled r = go (find (settles r) (held_checkpoints r))
+after_settling r = go (find (settles r) (held_checkpoints r))
   where
-    go : (found : Option Checkpoint) → Same r (lowered r found)
-    go None = record { size = refl; seat = refl; rule = refl; values = refl; view = refl; count = refl; state = refl; entries = λ p m. m }
+    go : (found : Option Checkpoint) → Settled r (lowered r found)
+    go None = record { stays = record { size = refl; seat = refl; rule = refl; values = refl; count = refl; state = refl }; view = refl; entries = λ p m. m }
     go (Some c) = record {
-      size = refl;
-      seat = refl;
-      rule = refl;
-      values = refl;
+      stays = record { size = refl; seat = refl; rule = refl; values = refl; count = refl; state = refl };
       view = refl;
-      count = refl;
-      state = refl;
       entries = λ p m. (in_filter _ p (proposals r.entries) (subst (λ ps. p ∈ ps) (proposals_above c.order r.entries) m)).0;
     }
 
@@ -110,15 +100,16 @@ module _ (g : Group) {St : Type 0} (M : Meaning St) (start : St) (rule : Stated 
   pub fine_settled : (G : Ground g rule M.digest) (k : Past) (seat : ℕ) (r : Replica St) (y : History)
       → Fine g M start rule k seat (record { replica = r; history = y }) → Fine g M start rule k seat (record { replica = settled r; history = y })
   fine_settled G k seat r y F =
-      let s = same_settled r in
+      let after = after_settling r in
+      let s = after.stays in
       let size : r.size ≡ g.seats = F.founded.size in
       record {
         founded = record { size = s.size ∙ size; seat = s.seat ∙ F.founded.seat; rule = s.rule ∙ F.founded.rule };
         holds = holds_settled g k r F.holds (omega (arith, size, G.quorum)) (omega (arith, size, G.small));
         shows = subst (λ vs. NotAhead (slice_index vs order_counter) (settled r).view (settled r).from (end (settled r))) (sym s.values) (shows_settled g k r F.holds _ F.shows);
         matches = subst (Matches k.log seat) (sym s.values) F.matches;
-        saw = record { issued = F.saw.issued; entries = λ p m. F.saw.entries p (s.entries p m) };
-        view = F.view ∙ sym s.view;
+        saw = record { issued = F.saw.issued; entries = λ p m. F.saw.entries p (after.entries p m) };
+        view = F.view ∙ sym after.view;
         reached = record { counted = F.reached.counted ∙ sym s.count; made = s.state ∙ F.reached.made; done = F.reached.done };
       }
 

@@ -227,18 +227,18 @@ module _ (g : Group) {St : Type 0} (M : Meaning St) (start : St) (rule : Stated 
             let right : Accepted g k w = accepted_grows g h k longer w a.0 in
             let q = entered r w in
             let holds = holds_entered g k r (holds_grows g h k longer r F.holds) w G.some refl (inl refl) right a.1 fits.0 a.2 in
-            let shown = subst (λ vs. NotAhead (slice_index vs order_counter) (accepted r w).view (accepted r w).from (end (accepted r w))) (sym q.values) (shows_entered g h r F.holds w _ F.shows newer) in
+            let shown = subst (λ vs. NotAhead (slice_index vs order_counter) (accepted r w).view (accepted r w).from (end (accepted r w))) (sym q.stays.values) (shows_entered g h r F.holds w _ F.shows newer) in
             record {
-              fine = fine_settled g M start rule G k seat (accepted r w) _ (fine_on g M start rule h seat r (accepted r w) y k (standing_in (NewView w)) w.view F longer (record { size = q.size; seat = q.seat; rule = q.rule })
+              fine = fine_settled g M start rule G k seat (accepted r w) _ (fine_on g M start rule h seat r (accepted r w) y k (standing_in (NewView w)) w.view F longer (record { size = q.stays.size; seat = q.stays.seat; rule = q.stays.rule })
                   holds
                   shown
-                  (subst (Matches h.log seat) (sym q.values) F.matches)
+                  (subst (Matches h.log seat) (sym q.stays.values) F.matches)
                   (λ p m. elim (in_either p (flat_map (λ (c : Change). c.entries) w.changes) w.prepares m) [
                     | inl i ↦ let c = in_flat_map (λ (c : Change). c.entries) p w.changes i in a.3 c.0 c.1 p c.2
                     | inr i ↦ a.4 p i
                   ])
                   (λ p m. inl (in_right p (flat_map (λ (c : Change). c.entries) w.changes) w.prepares (q.entries p m)))
-                  (sym q.view) q.count q.state);
+                  (sym q.view) q.stays.count q.stays.state);
               legal = R.legal;
               by = λ x i. absurd i;
               views = λ x i. elim i [ inl z ↦ subst (Accepted g k) (sym z) right | inr none ↦ absurd none ];
