@@ -17,7 +17,7 @@ use Rattle.drafts.specs.declared.prepare.PrepareDraft.{PrepareDraft}
 use Rattle.drafts.specs.declared.tagged.Tagged.{Tagged}
 use Rattle.drafts.specs.declared.view_change.ViewChangeDraft.{ViewChangeDraft}
 use Rattle.drafts.specs.Lengths.{length-prepare, length-checkpoint}
-use Rattle.drafts.specs.Says.{kept_prepare, kept_checkpoint, view_change_with, view_change_head, new_view_with}
+use Rattle.drafts.specs.Says.{kept_prepare, kept_checkpoint, view_change_with, view_change_head, new_view_with, placed}
 
 -- what is kept as one thing and laid out as another
 counted_map : {X Y : Type 0} (each : Y → List ℕ) (kept : X → Y) (xs : List X) → counted each (map kept xs) ≡ counted (λ x. each (kept x)) xs
@@ -56,16 +56,16 @@ pub ruleset view_changes = (view_change_bytes, length-view_change, length-proof,
 abbrev new_view_head : NewViewDraft → List ℕ
 new_view_head d = int new_view_type ++ int d.view.0
 
-pub new_view_bytes : (d : NewViewDraft) (tag : List ℕ) → untagged_new_view (new_view_with d tag) ≡ new_view_head d ++ counted encode_view_change d.changes.now ++ entries_bytes d.prepares.now
+pub new_view_bytes : (d : NewViewDraft) (tag : List ℕ) → untagged_new_view (new_view_with d tag) ≡ new_view_head d ++ counted encode_view_change (placed d.changes.now) ++ entries_bytes d.prepares.now
 unfolding untagged_new_view
 new_view_bytes d tag = rw (counted_map encode_prepare kept_prepare d.prepares.now) refl
 
-pub length-new_view : (d : NewViewDraft) (tag : List ℕ) → length (untagged_new_view (new_view_with d tag)) ≡ shortest_new_view - tag_bytes + length (flat_map encode_view_change d.changes.now) + prepare_bytes * length d.prepares.now
+pub length-new_view : (d : NewViewDraft) (tag : List ℕ) → length (untagged_new_view (new_view_with d tag)) ≡ shortest_new_view - tag_bytes + length (flat_map encode_view_change (placed d.changes.now)) + prepare_bytes * length d.prepares.now
 length-new_view d tag =
     let head : length (new_view_head d) ≡ 2 * int_bytes = refl in
-    let changes = length-append (new_view_head d) (counted encode_view_change d.changes.now) in
-    let prepares = length-append (new_view_head d ++ counted encode_view_change d.changes.now) (entries_bytes d.prepares.now) in
-    omega (arith, head, changes, prepares, ap length (new_view_bytes d tag), length-counted_any encode_view_change d.changes.now, length-entries d.prepares.now)
+    let changes = length-append (new_view_head d) (counted encode_view_change (placed d.changes.now)) in
+    let prepares = length-append (new_view_head d ++ counted encode_view_change (placed d.changes.now)) (entries_bytes d.prepares.now) in
+    omega (arith, head, changes, prepares, ap length (new_view_bytes d tag), length-counted_any encode_view_change (placed d.changes.now), length-entries d.prepares.now)
 
 -- for what is written of a NEW-VIEW
 pub ruleset new_views = (new_view_bytes, length-new_view, length-counted_any, length-entries, length-map, wrote_more, length-pasted)

@@ -2,6 +2,7 @@
 pub mod Holding
 pub mod Limits
 pub mod Pieces
+pub mod Placed
 pub mod Puts
 pub mod Rows
 pub mod Writing

@@ -12,7 +12,7 @@ use Rattle.drafts.specs.declared.prepare.PrepareDraft.{PrepareDraft}
 use Rattle.drafts.specs.declared.tagged.Tagged.{Tagged}
 use Rattle.drafts.specs.declared.view_change.ViewChangeDraft.{ViewChangeDraft}
 use Rattle.drafts.specs.Laws.{FitsTagged}
-use Rattle.drafts.specs.Says.{kept_prepare, kept_checkpoint, view_change_with, new_view_with}
+use Rattle.drafts.specs.Says.{kept_prepare, kept_checkpoint, view_change_with, new_view_with, placed}
 
 every_kept : {X Y : Type 0} (P : Y → Type 0) (kept : X → Y) → ((x : X) → P (kept x)) → (xs : List X) → AllByRecursion P (map kept xs)
 every_kept P kept holds [] = tt
@@ -30,7 +30,7 @@ view_change_fits d proof entries tag whole =
     let n = d.narrow in
     (n.0, n.1, n.2, n.3, n.4, rw (length-map d.proof.now kept_checkpoint) proof, proof_fits d.proof.now, rw (length-map d.entries.now kept_prepare) entries, entries_fit d.entries.now, whole)
 
-pub new_view_fits : (d : NewViewDraft) → length d.changes.now ≤ largest_quorum → AllByRecursion ViewChangeFits d.changes.now → length d.prepares.now ≤ window → FitsTagged (λ tag. NewView (new_view_with d tag))
+pub new_view_fits : (d : NewViewDraft) → length (placed d.changes.now) ≤ largest_quorum → AllByRecursion ViewChangeFits (placed d.changes.now) → length d.prepares.now ≤ window → FitsTagged (λ tag. NewView (new_view_with d tag))
 unfolding FitsTagged
 new_view_fits d few fit prepares tag whole =
     (d.narrow, few, fit, rw (length-map d.prepares.now kept_prepare) prepares, entries_fit d.prepares.now, whole)

@@ -1,10 +1,9 @@
 -- Pieces of any length, one written behind the other.
-use Rattle.std.proofs.Common.{◌≡◌, ℕ, ◌+◌, ◌<◌, ◌≤◌, List, [], ◌∷◌, ◌++◌, length, get_or, take, sym, subst, refl, ap, ◌∙◌, arith, length-append}
+use Rattle.std.proofs.Common.{◌≡◌, ℕ, ◌+◌, ◌<◌, ◌≤◌, List, [], ◌∷◌, ◌++◌, length, get_or, take, sym, subst, refl, ap, ◌∙◌, arith, append_assoc, length-append}
 use Rattle.std.specs.List.{flat_map, AllByRecursion}
 use Rattle.std.proofs.lemmas.List.{take_all, take_more, flat_map_more}
 use Rattle.std.proofs.lemmas.List.Folds.{length-flat_map-take}
 use Rattle.xdr.proofs.Listing.{length-counted_any}
-use Rattle.xdr.specs.Layout.{int, counted}
 use Rattle.xdr.specs.Writing.{Room, wrote}
 use Rattle.xdr.specs.declared.writer.Writer.{Writer}
 use Rattle.xdr.proofs.Writing.{wrote_more, room_behind}
@@ -29,21 +28,17 @@ module _ {X : Type 0} (each : X → List ℕ) (xs : List X) (i : ℕ) (x : X) (l
   next_within : length (flat_map each (take i xs)) + length (each x) ≤ length (flat_map each xs)
   next_within = rw is (length-flat_map-take each xs i x less)
 
-  -- in a writer that has room for all of them
-  module _ (w : Writer) (room : Room w (length (counted each xs))) where
-    abbrev first : List ℕ
-    first = int (length xs) ++ flat_map each (take i xs)
+  -- in a writer that has room for all of them behind a head
+  module _ (w : Writer) (head : List ℕ) (room : Room w (length (head ++ flat_map each xs))) where
+    pub room_for_next : Room (wrote w (head ++ flat_map each (take i xs))) (length (each x))
+    room_for_next = room_behind w _ (head ++ flat_map each (take i xs)) (length (each x)) (omega (arith, room, length-append head (flat_map each xs), length-append head (flat_map each (take i xs)), next_within)) refl
 
-    pub room_for_next : Room (wrote w first) (length (each x))
-    room_for_next = room_behind w _ first (length (each x)) (omega (arith, room, length-counted_any each xs, next_within)) refl
-
-    pub wrote_next : wrote (wrote w first) (each x) ≡ wrote w (int (length xs) ++ flat_map each (take (i + 1) xs))
-    wrote_next = wrote_more w first (each x) (omega (arith, room, length-counted_any each xs, next_within)) ∙ ap (λ bytes. wrote w (int (length xs) ++ bytes)) (sym taken_next)
+    pub wrote_next : wrote (wrote w (head ++ flat_map each (take i xs))) (each x) ≡ wrote w (head ++ flat_map each (take (i + 1) xs))
+    wrote_next = wrote_more w (head ++ flat_map each (take i xs)) (each x) (omega (arith, room, length-append head (flat_map each xs), length-append head (flat_map each (take i xs)), next_within)) ∙ ap (λ bytes. wrote w bytes) (append_assoc head (flat_map each (take i xs)) (each x)) ∙ ap (λ bytes. wrote w (head ++ bytes)) (sym taken_next)
 
 -- and the last
-pub wrote_all : {X : Type 0} (each : X → List ℕ) (w : Writer) (xs : List X) (i : ℕ) → length xs ≤ i → wrote w (int (length xs) ++ flat_map each (take i xs)) ≡ wrote w (counted each xs)
-unfolding counted
-wrote_all each w xs i end = ap (λ ys. wrote w (int (length xs) ++ flat_map each ys)) (take_all i xs end)
+pub wrote_all : {X : Type 0} (each : X → List ℕ) (w : Writer) (head : List ℕ) (xs : List X) (i : ℕ) → length xs ≤ i → wrote w (head ++ flat_map each (take i xs)) ≡ wrote w (head ++ flat_map each xs)
+wrote_all each w head xs i end = ap (λ ys. wrote w (head ++ flat_map each ys)) (take_all i xs end)
 
 -- for a count and the pieces behind it
 pub ruleset pieces = (length-counted_any)

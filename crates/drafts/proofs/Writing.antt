@@ -1,13 +1,14 @@
 -- A tag behind the bytes that were tagged.
-use Rattle.std.proofs.Common.{◌≡◌, ℕ, ◌+◌, ◌≤◌, true, List, [], ◌++◌, length, take, drop, Some, refl, ap, ◌∙◌, arith, length-append}
+use Rattle.std.proofs.Common.{◌≡◌, ℕ, ◌+◌, ◌≤◌, true, List, [], ◌++◌, length, replicate, take, drop, Some, refl, ap, ◌∙◌, arith, length-append}
 use Rattle.std.proofs.lemmas.List.{take_at}
-use Rattle.terms.specs.Numbers.{tag_bytes}
+use Rattle.terms.specs.Numbers.{tag_bytes, longest_new_view}
 use Rattle.xdr.specs.Layout.{pasted}
 use Rattle.xdr.proofs.Pasting.{pasted_front, pasted_more}
 use Rattle.message.specs.Decoding.{untagged, encode, decode}
 use Rattle.message.specs.Laws.{MessageFits}
 use Rattle.message.specs.declared.message.Message.{Message}
 use Rattle.message.proofs.Decoding.{messages_exact}
+use Rattle.message.proofs.Sizes.{message_sizes}
 use Rattle.drafts.specs.Laws.{TagApart, FitsTagged}
 use Rattle.drafts.specs.Limits.{within}
 use Rattle.drafts.specs.Writing.{written, drafted}
@@ -26,6 +27,15 @@ reads_back m out after n fits e =
     let whole : (n ≡ length (encode m)) × (after ≡ pasted out 0 (encode m)) = grind arith in
     let front : take n after ≡ encode m = rw (whole.1, whole.0, pasted_front out (encode m)) (take_at (encode m) (drop (length (encode m)) out) (length (encode m)) refl) in
     ap decode front ∙ messages_exact.back m fits
+
+-- where the longest message has room, so has any that is within the limits
+pub has_room : (message : List ℕ → Message) → TagApart message → FitsTagged message → length (untagged (message [])) + tag_bytes ≤ longest_new_view
+unfolding FitsTagged
+has_room message apart fits =
+    let tag = replicate tag_bytes 0 in
+    let bytes : encode (message tag) ≡ untagged (message []) ++ tag = rw (apart.bytes tag, apart.last tag) in
+    let longest = message_sizes.no_longer (message tag) (fits tag refl) in
+    omega (arith, longest, ap length bytes, length-append (untagged (message [])) tag)
 
 module _ (message : List ℕ → Message) (apart : TagApart message) (tag out mid : List ℕ) (n : ℕ) (long : length tag ≡ tag_bytes) (e : (Some n, mid) ≡ drafted (message []) out) where
   -- the same bytes with the tag behind them

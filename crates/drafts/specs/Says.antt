@@ -1,5 +1,5 @@
 -- The messages that drafts become with a tag.
-use Rattle.std.specs.Prelude.{ℕ, List, ◌++◌, map}
+use Rattle.std.specs.Prelude.{ℕ, List, [], ◌++◌, Option, Some, None, map, filter_map}
 use Rattle.xdr.specs.Layout.{int, hyper}
 use Rattle.parts.specs.Encoding.{view_change_type}
 use Rattle.parts.specs.Messages.{Prepare, Commit, Checkpoint}
@@ -39,6 +39,15 @@ view_change_with d tag = record { sender = d.sender; target = d.target.0; previo
 abbrev pub view_change_head : ViewChangeDraft → List ℕ
 view_change_head d = int view_change_type ++ int d.sender ++ int d.target.0 ++ hyper d.previous ++ int d.from.0 ++ int d.low.0
 
+-- what stands in places, without the empty ones
+abbrev pub placed : {A : Type 0} → List (Option A) → List A
+placed places = filter_map (λ place. place) places
+
+-- the bytes of what stands in a place
+abbrev pub bytes_at : {A : Type 0} → (A → List ℕ) → Option A → List ℕ
+bytes_at each None = []
+bytes_at each (Some x) = each x
+
 -- a NEW-VIEW with a tag
 abbrev pub new_view_with : NewViewDraft → List ℕ → NewView
-new_view_with d tag = record { view = d.view.0; changes = d.changes.now; prepares = map kept_prepare d.prepares.now; tag = tag }
+new_view_with d tag = record { view = d.view.0; changes = placed d.changes.now; prepares = map kept_prepare d.prepares.now; tag = tag }

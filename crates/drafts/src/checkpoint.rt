@@ -17,6 +17,17 @@ pub struct CheckpointDraft {
     pub ghost whole: { length digest ≡ digest_bytes },
 }
 
+/// A place for a draft that holds none yet.
+impl Default for CheckpointDraft {
+    fn default() -> CheckpointDraft {
+        CheckpointDraft {
+            sender: 0,
+            order: Order::default(),
+            digest: [0; DIGEST_BYTES],
+        }
+    }
+}
+
 /// What a CHECKPOINT that was read says.
 impl From<&Checkpoint<'_>> for CheckpointDraft {
     ghost use Rattle.drafts.specs.Says.{checkpoint_with};

@@ -1,5 +1,6 @@
 // What a message says before it is tagged, and the two calls that write one into a lent buffer.
-ghost use Rattle.std.specs.Prelude.{◌≡◌, ℕ, true, List, [], length, take, IfSome};
+ghost use Rattle.std.specs.Prelude.{◌≡◌, ℕ, ◌≤◌, true, List, [], length, take, is_some, IfSome};
+ghost use Rattle.terms.specs.Numbers.{longest_new_view};
 ghost use Rattle.message.specs.Decoding.{untagged, decode};
 ghost use Rattle.message.specs.declared.message.Message.{Message};
 ghost use Rattle.xdr.specs.Writing.{Room, wrote};
@@ -45,10 +46,12 @@ pub fn write<D: Draft>(draft: &D, tag: &[u8; TAG_BYTES], out: &mut [u8]) -> Opti
 }
 
 /// The same without the tag: the bytes that are to be tagged. The buffer must have room for the whole message, its tag
-/// included.
+/// included. A buffer that has room for the longest message has room for any.
+#[tactic(auto, using(crate::proofs::Writing::has_room))]
 pub fn write_untagged<D: Draft>(draft: &D, out: &mut [u8]) -> Option<usize>
     ensures value { (result, out.new) ≡ drafted (D.Draft.message draft.now []) out.old }
     ensures fits { IfSome result (λ _. FitsTagged (D.Draft.message draft.now)) }
+    ensures room { within (D.Draft.message draft.now []) ≡ true → longest_new_view ≤ length out.old → is_some result ≡ true }
 {
     let length = draft.untagged_len()?;
     let room = out.len().checked_sub(TAG_BYTES)?;

@@ -15,8 +15,8 @@ use xdr::Writer;
 #[derive(Clone, Copy)]
 pub struct NewViewDraft<'a> {
     pub view: View,
-    /// The quorum that asks for the view.
-    pub changes: &'a [ViewChange<'a>],
+    /// The quorum that asks for the view, in places of which some may be empty.
+    pub changes: &'a [Option<ViewChange<'a>>],
     pub prepares: &'a [Tagged<PrepareDraft>],
     pub ghost narrow: { view.0 < 2 ^ 32 },
 }

@@ -17,6 +17,17 @@ pub struct PrepareDraft {
     pub ghost narrow: { view.0 < 2 ^ 32 × order.0 < 2 ^ 32 × RequestFits request },
 }
 
+/// A place for a draft that holds none yet.
+impl Default for PrepareDraft {
+    fn default() -> PrepareDraft {
+        PrepareDraft {
+            view: View::default(),
+            order: Order::default(),
+            request: Request::default(),
+        }
+    }
+}
+
 /// What a PREPARE that was read says.
 impl From<&Prepare<'_>> for PrepareDraft {
     ghost use Rattle.std.specs.Prelude.{◌≡◌};

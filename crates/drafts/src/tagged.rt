@@ -31,6 +31,16 @@ impl<D: Copy> Clone for Tagged<D> {
     }
 }
 
+/// A place for a draft with a tag that holds none yet.
+impl<D: Default> Default for Tagged<D> {
+    fn default() -> Tagged<D> {
+        Tagged {
+            draft: D::default(),
+            tag: [0; TAG_BYTES],
+        }
+    }
+}
+
 /// A PREPARE that was read, to keep.
 impl From<&Prepare<'_>> for Tagged<PrepareDraft> {
     ghost use Rattle.drafts.specs.Says.{kept_prepare};

@@ -109,7 +109,7 @@ fn bare_new_view_len(mail: &[u8]) -> anyhow::Result<usize> {
         .context("two VIEW-CHANGEs")?;
     let new_view = NewViewDraft {
         view: View(1),
-        changes: &[view_change(first)?, view_change(second)?],
+        changes: &[Some(view_change(first)?), Some(view_change(second)?)],
         prepares: &[],
     };
     let mut out = [0; OUT_BYTES];

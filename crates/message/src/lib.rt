@@ -8,7 +8,7 @@ mod view_change;
 pub use message::Message;
 pub use new_view::NewView;
 pub use parts::{
-    CHECKPOINT_COUNTER, Checkpoint, Checkpoints, Commit, Delivered, ORDER_COUNTER, Prepare,
-    Prepares, VIEW_COUNTER,
+    CHECKPOINT_COUNTER, Checkpoint, CheckpointIter, Checkpoints, Commit, Delivered, ORDER_COUNTER,
+    Prepare, PrepareIter, Prepares, VIEW_COUNTER,
 };
-pub use view_change::{ViewChange, ViewChanges};
+pub use view_change::{ViewChange, ViewChangeIter, ViewChanges};

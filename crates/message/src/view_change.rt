@@ -1,5 +1,6 @@
 // VIEW-CHANGE: a replica suspects the leader, asks for a new view and tells what it knows.
 ghost use Rattle.std.specs.Prelude.{◌≡◌, length, slice_get};
+ghost use Rattle.std.specs.Iterator.{YieldsFirst, item_count};
 ghost use Rattle.std.specs.Option.{option_map};
 ghost use Rattle.terms.specs.Numbers.{largest_quorum};
 ghost use Rattle.xdr.specs.Reading.{value_and_rest, list_from};
@@ -144,11 +145,50 @@ impl<'a> ViewChanges<'a> {
         self.list.get(place)
     }
 
+    /// All of them, one after the other.
+    pub fn iter(&self) -> ViewChangeIter<'a>
+        ensures { result ≡ self.now }
+    {
+        ViewChangeIter { left: self.list }
+    }
+
     // Reads a counted list of them.
     pub(crate) fn read(bytes: &'a [u8]) -> Option<(ViewChanges<'a>, &'a [u8])>
         ensures { option_map value_and_rest result ≡ list_from view_change_from largest_quorum bytes.now }
     {
         let (list, rest) = Nested::read::<ViewChange>(bytes, LARGEST_QUORUM)?;
         Some((ViewChanges { list }, rest))
+    }
+}
+
+/// The VIEW-CHANGEs that are left of a list.
+#[derive(Drop)]
+pub struct ViewChangeIter<'a> {
+    left: Nested<'a>,
+}
+
+impl<'a> Model for ViewChangeIter<'a> {
+    ghost use Rattle.std.specs.Prelude.{List};
+    ghost use Rattle.message.specs.Messages.{ViewChange};
+
+    ghost Value = { List ViewChange };
+
+    ghost use Rattle.parts.specs.Lists.{listed};
+    ghost use Rattle.message.specs.Reading.{view_change_from};
+
+    ghost view = { λ i. listed view_change_from i.left };
+}
+
+impl<'a> Iterator for ViewChangeIter<'a> {
+    type Item = ViewChange<'a>;
+
+    ghost next_gives = { YieldsFirst (λ left. left) };
+
+    ghost remaining = { item_count (λ left. left) };
+
+    fn next(&mut self) -> Option<ViewChange<'a>> {
+        let (change, others) = self.left.split_first()?;
+        self.left = others;
+        Some(change)
     }
 }

@@ -37,10 +37,20 @@ module _ {M : Type 0} (read : List ℕ → Option (M × List ℕ)) where
   unfolding items_from
   items_next n bytes x rest e = ap (λ o. items_then o (items_from read n)) (sym e)
 
-  items_end : (n : ℕ) (bytes : List ℕ) → None ≡ read bytes → items_from read n bytes ≡ []
+  pub items_end : (n : ℕ) (bytes : List ℕ) → None ≡ read bytes → items_from read n bytes ≡ []
   unfolding items_from
   items_end zero bytes e = refl
   items_end (suc n) bytes e = ap (λ o. items_then o (items_from read n)) (sym e)
+
+  -- the first one, and those behind it
+  pub none_first : (n : ℕ) (bytes : List ℕ) → n ≡ 0 → items_from read n bytes ≡ []
+  unfolding items_from
+  none_first n bytes e = rw e refl
+
+  pub one_first : (n m : ℕ) (bytes : List ℕ) (x : M) (rest : List ℕ) → Some (x, rest) ≡ read bytes → n ≡ m + 1 → items_from read n bytes ≡ x ∷ items_from read m rest
+  one_first n m bytes x rest e more =
+      let next : n ≡ suc m = omega arith in
+      rw next (items_next m bytes x rest e)
 
   -- a message at a place, seen from one place further on
   pub place_behind : (n place i : ℕ) (bytes : List ℕ) (x : M) (rest : List ℕ) → i < place → place < n → Some (x, rest) ≡ read bytes → slice_get (items_from read (n - (i + 1)) rest) (place - (i + 1)) ≡ slice_get (items_from read (n - i) bytes) (place - i)

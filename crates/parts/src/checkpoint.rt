@@ -1,5 +1,6 @@
 // CHECKPOINT: a replica tells the digest of its register behind the request of an order.
 ghost use Rattle.std.specs.Prelude.{◌≡◌, length, slice_get};
+ghost use Rattle.std.specs.Iterator.{YieldsFirst, item_count};
 ghost use Rattle.std.specs.Option.{option_map};
 ghost use Rattle.terms.specs.Numbers.{largest_quorum};
 ghost use Rattle.xdr.specs.Reading.{value_and_rest, list_from};
@@ -127,11 +128,50 @@ impl<'a> Checkpoints<'a> {
         self.list.get(place)
     }
 
+    /// All of them, one after the other.
+    pub fn iter(&self) -> CheckpointIter<'a>
+        ensures { result ≡ self.now }
+    {
+        CheckpointIter { left: self.list }
+    }
+
     // Reads a counted list of them.
     pub fn read(bytes: &'a [u8]) -> Option<(Checkpoints<'a>, &'a [u8])>
         ensures { option_map value_and_rest result ≡ list_from checkpoint_from largest_quorum bytes.now }
     {
         let (list, rest) = Nested::read::<Checkpoint>(bytes, LARGEST_QUORUM)?;
         Some((Checkpoints { list }, rest))
+    }
+}
+
+/// The CHECKPOINTs that are left of a list.
+#[derive(Drop)]
+pub struct CheckpointIter<'a> {
+    left: Nested<'a>,
+}
+
+impl<'a> Model for CheckpointIter<'a> {
+    ghost use Rattle.std.specs.Prelude.{List};
+    ghost use Rattle.parts.specs.Messages.{Checkpoint};
+
+    ghost Value = { List Checkpoint };
+
+    ghost use Rattle.parts.specs.Lists.{listed};
+    ghost use Rattle.parts.specs.Reading.{checkpoint_from};
+
+    ghost view = { λ i. listed checkpoint_from i.left };
+}
+
+impl<'a> Iterator for CheckpointIter<'a> {
+    type Item = Checkpoint<'a>;
+
+    ghost next_gives = { YieldsFirst (λ left. left) };
+
+    ghost remaining = { item_count (λ left. left) };
+
+    fn next(&mut self) -> Option<Checkpoint<'a>> {
+        let (checkpoint, others) = self.left.split_first()?;
+        self.left = others;
+        Some(checkpoint)
     }
 }

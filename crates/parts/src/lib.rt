@@ -8,7 +8,7 @@ mod fields;
 mod nested;
 mod prepare;
 
-pub use checkpoint::{Checkpoint, Checkpoints};
+pub use checkpoint::{Checkpoint, CheckpointIter, Checkpoints};
 pub use commit::Commit;
 pub use delivered::{Delivered, before, read_whole, split_type, untagged};
 pub use fields::{
@@ -16,4 +16,4 @@ pub use fields::{
     VIEW_COUNTER,
 };
 pub use nested::Nested;
-pub use prepare::{Prepare, Prepares};
+pub use prepare::{Prepare, PrepareIter, Prepares};

@@ -1,5 +1,5 @@
 // Messages of one kind that stand one behind the other in another message.
-ghost use Rattle.std.specs.Prelude.{◌≡◌, length, slice_get, IfSome};
+ghost use Rattle.std.specs.Prelude.{◌≡◌, [], ◌∷◌, length, slice_get, IfSome, MatchOption};
 ghost use Rattle.std.specs.Option.{option_map};
 ghost use Rattle.xdr.specs.Reading.{list_from};
 ghost use Rattle.parts.specs.Lists.{listed, listed_and_rest};
@@ -51,5 +51,18 @@ impl<'a> Nested<'a> {
         }
         let (message, _) = read_nested::<M>(rest)?;
         Some(message)
+    }
+
+    // The first message and the others behind it, if there is one.
+    #[tactic(auto, using(crate::proofs::Lists::none_first, crate::proofs::Lists::items_end, crate::proofs::Lists::one_first))]
+    pub fn split_first<M: Delivered<'a>>(&self) -> Option<(M, Nested<'a>)>
+        ensures { MatchOption result (listed (of_type M.Delivered.number M.Delivered.rest_from) self.now ≡ []) (λ p. listed (of_type M.Delivered.number M.Delivered.rest_from) self.now ≡ p.0 ∷ listed (of_type M.Delivered.number M.Delivered.rest_from) p.1) }
+    {
+        if self.count == 0 {
+            return None;
+        }
+        let (message, bytes) = read_nested(self.bytes)?;
+        let count = self.count - 1;
+        Some((message, Nested { count, bytes }))
     }
 }

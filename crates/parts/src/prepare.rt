@@ -1,5 +1,6 @@
 // PREPARE: the leader of a view proposes a request for an order.
 ghost use Rattle.std.specs.Prelude.{◌≡◌, length, slice_get};
+ghost use Rattle.std.specs.Iterator.{YieldsFirst, item_count};
 ghost use Rattle.std.specs.Option.{option_map};
 ghost use Rattle.terms.specs.Numbers.{window};
 ghost use Rattle.xdr.specs.Reading.{value_and_rest, list_from};
@@ -137,11 +138,50 @@ impl<'a> Prepares<'a> {
         self.list.get(place)
     }
 
+    /// All of them, one after the other.
+    pub fn iter(&self) -> PrepareIter<'a>
+        ensures { result ≡ self.now }
+    {
+        PrepareIter { left: self.list }
+    }
+
     // Reads a counted list of them.
     pub fn read(bytes: &'a [u8]) -> Option<(Prepares<'a>, &'a [u8])>
         ensures { option_map value_and_rest result ≡ list_from prepare_from window bytes.now }
     {
         let (list, rest) = Nested::read::<Prepare>(bytes, WINDOW)?;
         Some((Prepares { list }, rest))
+    }
+}
+
+/// The PREPAREs that are left of a list.
+#[derive(Drop)]
+pub struct PrepareIter<'a> {
+    left: Nested<'a>,
+}
+
+impl<'a> Model for PrepareIter<'a> {
+    ghost use Rattle.std.specs.Prelude.{List};
+    ghost use Rattle.parts.specs.Messages.{Prepare};
+
+    ghost Value = { List Prepare };
+
+    ghost use Rattle.parts.specs.Lists.{listed};
+    ghost use Rattle.parts.specs.Reading.{prepare_from};
+
+    ghost view = { λ i. listed prepare_from i.left };
+}
+
+impl<'a> Iterator for PrepareIter<'a> {
+    type Item = Prepare<'a>;
+
+    ghost next_gives = { YieldsFirst (λ left. left) };
+
+    ghost remaining = { item_count (λ left. left) };
+
+    fn next(&mut self) -> Option<Prepare<'a>> {
+        let (prepare, others) = self.left.split_first()?;
+        self.left = others;
+        Some(prepare)
     }
 }

@@ -4,3 +4,4 @@ mod Parsing
 mod Padding
 mod Streams
 mod Keys
+pub mod Digests

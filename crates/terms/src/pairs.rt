@@ -5,11 +5,11 @@ ghost use Rattle.terms.specs.Pairs.{paired, view_part, order_part, PairsPart, Pa
 use std::fmt;
 
 /// A view's number.
-#[derive(Clone, Copy, PartialEq, Eq, PartialOrd, Ord, Debug)]
+#[derive(Clone, Copy, PartialEq, Eq, PartialOrd, Ord, Debug, Default)]
 pub struct View(pub u32);
 
 /// An order number: the place of a request in the agreed list.
-#[derive(Clone, Copy, PartialEq, Eq, PartialOrd, Ord, Debug)]
+#[derive(Clone, Copy, PartialEq, Eq, PartialOrd, Ord, Debug, Default)]
 pub struct Order(pub u32);
 
 impl fmt::Display for View {
