@@ -1,0 +1,2 @@
+-- What a NEW-VIEW stands on.
+pub mod Foundation

@@ -1,0 +1,3 @@
+-- What a message has to show before it is believed.
+pub mod Tags
+pub mod Senders
