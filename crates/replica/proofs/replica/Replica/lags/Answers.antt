@@ -1,0 +1,9 @@
+-- Each of them is asked.
+use Rattle.std.proofs.Common.{rules, nat_lt}
+use Rattle.std.proofs.lemmas.Iterator.Consumers.{YieldsList-from_first}
+use Rattle.std.proofs.lemmas.Iterator.Search.{any_from_yields_List}
+use borrow.Author.Tests.{tests}
+use Rattle.replica.proofs.replica.Replica.lags.Goals as goal
+
+pub returns : goal.returns
+returns g c = any_from_yields_List (λ m. nat_lt c.args.self.now.«record».low m.low) _ _ _ c.any.ensures.ran (YieldsList-from_first (λ m. m) (λ left. left) c.args.changes.now c.iter.ensures) (λ m b f called. search (rules, tests))
