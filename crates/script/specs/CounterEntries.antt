@@ -62,8 +62,11 @@ counter_entry_of (w ∷ ws) =
     else Err (fault_at 1 NoCounterEntry)))
 
 -- an entry as it is written: its words in order, with one space between them
+abbrev pub certify_words : Certify → List (List ℕ)
+certify_words c = kind_word c.kind ∷ decimal c.number ∷ decimal c.value ∷ bytes_word c.message ∷ []
+
 abbrev pub entry_words : CounterEntry → List (List ℕ)
-entry_words (Certifies c) = codes "certify" ∷ kind_word c.kind ∷ decimal c.number ∷ decimal c.value ∷ bytes_word c.message ∷ []
+entry_words (Certifies c) = codes "certify" ∷ certify_words c
 entry_words (Value number) = codes "value" ∷ decimal number ∷ []
 entry_words (Check c) = codes "check" ∷ decimal c.kind ∷ decimal c.seat ∷ decimal c.number ∷ decimal c.new ∷ decimal c.old ∷ bytes_word c.message ∷ bytes_word c.tag ∷ []
 
@@ -71,8 +74,11 @@ abbrev pub written : CounterEntry → List ℕ
 written entry = join_with_byte 32 (entry_words entry)
 
 -- numbers and bytes are those that their types hold
+abbrev pub CertifyFits : Certify → Type 0
+CertifyFits c = (c.number < number_bound) × (c.value < long_bound) × BytesFit c.message
+
 abbrev pub EntryFits : CounterEntry → Type 0
-EntryFits (Certifies c) = (c.number < number_bound) × (c.value < long_bound) × BytesFit c.message
+EntryFits (Certifies c) = CertifyFits c
 EntryFits (Value number) = number < number_bound
 EntryFits (Check c) = (c.kind < number_bound) × (c.seat < number_bound) × (c.number < number_bound) × (c.new < long_bound) × (c.old < long_bound) × BytesFit c.message × BytesFit c.tag
 

@@ -4,21 +4,29 @@ use Rattle.std.specs.List.{AllByRecursion, join_with_byte}
 use Rattle.terms.specs.declared.requests.Request.{Request}
 use Rattle.texts.specs.Cutting.{words_of}
 use Rattle.texts.specs.Numerals.{number_bound}
-use Rattle.script.specs.Words.{Left, fault_at, and_then, with_number, with_end, spelt}
+use Rattle.script.specs.Words.{Left, fault_at, behind_first, and_then, with_number, with_end, spelt}
 use Rattle.script.specs.declared.entries.Entry.{Entry}
 use Rattle.script.specs.declared.entries.Entry.TheVariants.{Apply}
 use Rattle.script.specs.declared.faults.Expected.TheVariants.{Entry as NoEntry}
 use Rattle.script.specs.declared.faults.Fault.{Fault}
 
--- five numbers and the line's end
-unfoldable pub request_of : Left → Result Request Fault
-request_of left =
+-- five numbers
+unfoldable pub request_at : Left → Result Request Fault
+request_at left =
     with_number left (λ client left₁.
     with_number left₁ (λ sequence left₂.
     with_number left₂ (λ code left₃.
     with_number left₃ (λ key left₄.
     with_number left₄ (λ value left₅.
-    with_end left₅ (record { client = client; sequence = sequence; code = code; key = key; value = value }))))))
+    Ok (record { client = client; sequence = sequence; code = code; key = key; value = value }))))))
+
+-- what is left behind them
+abbrev pub behind_request : Left → Left
+behind_request left = behind_first (behind_first (behind_first (behind_first (behind_first left))))
+
+-- a request, and the line's end
+unfoldable pub request_of : Left → Result Request Fault
+request_of left = and_then (request_at left) (λ request. with_end (behind_request left) request)
 
 -- no words say nothing; `apply CLIENT SEQUENCE CODE KEY VALUE` asks for a request
 abbrev pub entry_of : List (List ℕ) → Result (Option Entry) Fault
@@ -31,9 +39,12 @@ entry_of (w ∷ ws) =
 abbrev pub name_of : Entry → List ℕ
 name_of (Apply request) = codes "apply"
 
--- the numbers of an entry in the order in which they are written
+-- the numbers of a request and of an entry in the order in which they are written
+abbrev pub request_numbers : Request → List ℕ
+request_numbers request = request.client ∷ request.sequence ∷ request.code ∷ request.key ∷ request.value ∷ []
+
 abbrev pub numbers_of : Entry → List ℕ
-numbers_of (Apply request) = request.client ∷ request.sequence ∷ request.code ∷ request.key ∷ request.value ∷ []
+numbers_of (Apply request) = request_numbers request
 
 -- an entry as it is written: its name and its numbers in decimal, with one space between them
 abbrev pub written : Entry → List ℕ

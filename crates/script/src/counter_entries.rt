@@ -1,7 +1,8 @@
 // The entries of a trusted counter: what a script asks of it, and what it checks.
 ghost use Rattle.std.specs.Prelude.{◌≡◌};
 ghost use Rattle.texts.specs.Cutting.{words_of};
-ghost use Rattle.script.specs.CounterEntries.{kind_of, counter_entry_of, certify_of, value_of, claim_of, CounterEntriesReadBack};
+ghost use Rattle.script.specs.CounterEntries.{kind_of, kind_at, counter_entry_of, certify_of, value_of, claim_of, CounterEntriesReadBack};
+ghost use Rattle.script.specs.Words.{behind_first};
 
 use super::bytes::Bytes;
 use super::faults::{Expected, Fault};
@@ -66,11 +67,10 @@ pub fn read_counter_entry(line: &[u8]) -> Result<Option<CounterEntry<'_>>, Fault
 
 // The kind, the counter, its new value and the message, and nothing behind them.
 #[tactic(auto, unfolding(crate::specs::CounterEntries::certify_of))]
-fn read_certify<'a>(words: &mut Words<'a>) -> Result<Certify<'a>, Fault>
+pub(crate) fn read_certify<'a>(words: &mut Words<'a>) -> Result<Certify<'a>, Fault>
     ensures { result ≡ certify_of words.old }
 {
-    let fault = words.fault(Expected::Kind);
-    let kind = words.next().and_then(read_kind).ok_or(fault)?;
+    let kind = next_kind(words)?;
     let number = words.number()?;
     let value = words.long()?;
     let message = Bytes::next_of(words)?;
@@ -80,6 +80,15 @@ fn read_certify<'a>(words: &mut Words<'a>) -> Result<Certify<'a>, Fault>
         value,
         message,
     })
+}
+
+// The kind of certificates that the next word of a line names.
+pub(crate) fn next_kind(words: &mut Words) -> Result<Kind, Fault>
+    ensures value { result ≡ kind_at words.old }
+    ensures rest { words.new ≡ behind_first words.old }
+{
+    let fault = words.fault(Expected::Kind);
+    words.next().and_then(read_kind).ok_or(fault)
 }
 
 // The kind of certificates that a word names.

@@ -1,7 +1,7 @@
 // The entries of a register: what a script asks of it, one after the other.
-ghost use Rattle.std.specs.Prelude.{◌≡◌};
+ghost use Rattle.std.specs.Prelude.{◌≡◌, IfOk};
 ghost use Rattle.texts.specs.Cutting.{words_of};
-ghost use Rattle.script.specs.Entries.{entry_of, request_of, EntriesReadBack};
+ghost use Rattle.script.specs.Entries.{entry_of, request_of, request_at, behind_request, EntriesReadBack};
 
 use super::faults::{Expected, Fault};
 use super::words::Words;
@@ -34,12 +34,22 @@ pub fn read_entry(line: &[u8]) -> Result<Option<Entry>, Fault>
 fn read_request(words: &mut Words) -> Result<Request, Fault>
     ensures { result ≡ request_of words.old }
 {
+    let request = next_request(words)?;
+    words.end_with(request)
+}
+
+// The request that the next five words of a line write.
+#[tactic(auto, unfolding(crate::specs::Entries::request_at))]
+pub(crate) fn next_request(words: &mut Words) -> Result<Request, Fault>
+    ensures value { result ≡ request_at words.old }
+    ensures rest { IfOk result (λ _. words.new ≡ behind_request words.old) }
+{
     let client = words.number()?;
     let sequence = words.number()?;
     let code = words.number()?;
     let key = words.number()?;
     let value = words.number()?;
-    words.end_with(Request {
+    Ok(Request {
         client,
         sequence,
         code,

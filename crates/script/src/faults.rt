@@ -4,7 +4,7 @@ use thiserror::Error;
 /// What a word should be. It is shown as the end of a sentence about the word.
 #[derive(Clone, Copy, PartialEq, Eq, Debug, Error)]
 pub enum Expected {
-    #[error("should be \"register SERVICE\", \"counter N SEAT KIND KEY\" or \"mail\"")]
+    #[error("should be \"register SERVICE\", \"counter N SEAT KIND KEY\", \"mail\" or \"group N KIND KEY SERVICE\"")]
     Header,
     #[error("should be a service: glyphs, release, sessions glyphs or sessions release")]
     Service,
@@ -27,6 +27,18 @@ pub enum Expected {
     /// An entry for mail.
     #[error("should be \"read BYTES\"")]
     MailEntry,
+    /// An entry for a group.
+    #[error("should be other, used, ask, take, vote, carry, mark, suspect, open, show, certify, deliver or pump")]
+    GroupEntry,
+    /// The length of the buffer that is written.
+    #[error("should be \"out LENGTH\", or not be there")]
+    Out,
+    /// The length of the buffer that a state is written into.
+    #[error("should be \"scratch LENGTH\", or not be there")]
+    Scratch,
+    /// One of the two lengths.
+    #[error("should be \"out LENGTH\" or \"scratch LENGTH\", or not be there")]
+    Length,
     /// A kind of certificates.
     #[error("should be a kind of certificates: continuing or independent")]
     Kind,

@@ -1,7 +1,7 @@
 // The header: what the script runs.
 ghost use Rattle.std.specs.Prelude.{◌≡◌};
 ghost use Rattle.texts.specs.Cutting.{words_of};
-ghost use Rattle.script.specs.Headers.{header_of, service_of, sessions_of, register_of, counter_of, HeadersReadBack};
+ghost use Rattle.script.specs.Headers.{header_of, service_of, sessions_of, register_of, counter_of, group_of, HeadersReadBack};
 
 use super::faults::{Expected, Fault};
 use super::keys::Key;
@@ -30,12 +30,21 @@ pub struct CounterHeader {
     pub key: Key,
 }
 
+/// A group: the number of its seats, the key of its counters, and the service at each seat.
+#[derive(Clone, Copy, PartialEq, Eq, Debug)]
+pub struct GroupHeader {
+    pub seats: u32,
+    pub key: Key,
+    pub service: ServiceKind,
+}
+
 /// What a script runs.
 #[derive(Clone, Copy, PartialEq, Eq, Debug)]
 pub enum Header {
     Register(ServiceKind),
     Counter(CounterHeader),
     Mail,
+    Group(GroupHeader),
 }
 
 impl fmt::Display for RegisterKind {
@@ -74,6 +83,9 @@ pub fn read_header(line: &[u8]) -> Result<Option<Header>, Fault>
             Ok(Some(Header::Counter(read_counter(&mut words)?)))
         }
         Some(word) if word == b"mail".as_slice() => words.end_with(Some(Header::Mail)),
+        Some(word) if word == b"group".as_slice() => {
+            Ok(Some(Header::Group(read_group(&mut words)?)))
+        }
         Some(_) => Err(fault),
     }
 }
@@ -87,6 +99,21 @@ fn read_counter(words: &mut Words) -> Result<CounterHeader, Fault>
     let seat = words.number()?;
     let key = Key::next_of(words)?;
     words.end_with(CounterHeader { seats, seat, key })
+}
+
+// The seats, the key and the service of a group, and nothing behind them.
+#[tactic(auto, unfolding(crate::specs::Headers::group_of))]
+fn read_group(words: &mut Words) -> Result<GroupHeader, Fault>
+    ensures { result ≡ group_of words.old }
+{
+    let seats = words.number()?;
+    let key = Key::next_of(words)?;
+    let service = read_service(words)?;
+    Ok(GroupHeader {
+        seats,
+        key,
+        service,
+    })
 }
 
 // A service, and nothing behind it.

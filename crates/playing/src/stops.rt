@@ -21,7 +21,19 @@ pub enum Stop {
     Refused(u64, Refusal),
     /// An entry on a line names the bytes that another line wrote, and there are none.
     #[error("line {0}: line {1} wrote no bytes")]
-    NothingWritten(u64, u32),
+    NothingWritten(u64, u64),
+    /// An entry on a line names a seat that has no replica.
+    #[error("line {0}: no replica at seat {1}")]
+    NoReplica(u64, u32),
+    /// An entry on a line takes a seat for one in other hands.
+    #[error("line {0}: seat {1} is not in other hands")]
+    NotInOtherHands(u64, u32),
+    /// An entry on a line says how a seat begins, and a call was made already.
+    #[error("line {0}: other and used stand before the first call")]
+    Begun(u64),
+    /// The replicas still move behind the most rounds that there can be.
+    #[error("line {0}: the replicas do not come to rest")]
+    Restless(u64),
     #[error("cannot print the record: {0}")]
     Unprinted(#[from] io::Error),
     #[error("out of memory")]

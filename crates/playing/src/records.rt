@@ -4,6 +4,7 @@ use counter::{COUNTERS, Counter};
 use registers::GlyphRow;
 use script::{Tally, YesNo};
 use service::{Failure, Service};
+use std::alloc::{AllocError, Global};
 use std::fmt::{self, Display};
 use std::io;
 use terms::Refusal;
@@ -22,8 +23,7 @@ impl fmt::Display for Refused {
 
 /// Prints the written state, how many requests were applied and how many got each status.
 pub fn close<S: Service>(rt: &HostRuntime, service: &S, tally: &Tally) -> Result<(), Stop> {
-    let mut state = vec![in rt.alloc(); 0; service.written_len()]?;
-    let _ = service.write(&mut state);
+    let state = written_state(rt.alloc(), service)?;
     let len = state.len();
     let bytes = Hex(state.as_slice());
     println!(rt; "written {len} {bytes}")?;
@@ -34,6 +34,13 @@ pub fn close<S: Service>(rt: &HostRuntime, service: &S, tally: &Tally) -> Result
         show_count(rt, tally, failure.status(), failure)?;
     }
     Ok(())
+}
+
+/// The written state of a service.
+pub fn written_state<S: Service>(heap: Global, service: &S) -> Result<Vec<u8>, AllocError> {
+    let mut state = vec![in heap; 0; service.written_len()]?;
+    let _ = service.write(&mut state);
+    Ok(state)
 }
 
 // Prints how many requests got a status, if any did.

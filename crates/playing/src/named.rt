@@ -7,6 +7,6 @@ use std::alloc::Global;
 pub fn bytes_of(heap: Global, number: u64, bytes: Bytes) -> Result<Vec<u8>, Stop> {
     match bytes {
         Bytes::Here(word) => Ok(word.bytes(heap)?),
-        Bytes::Line(line) => Err(Stop::NothingWritten(number, line)),
+        Bytes::Line(line) => Err(Stop::NothingWritten(number, u64::from(line))),
     }
 }

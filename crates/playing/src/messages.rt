@@ -1,8 +1,7 @@
 // Messages in words: type, name, fields and tag on one line, and below it a line for each message that it holds.
+use super::lists::Dotted;
 use super::stops::Stop;
 use message::{Checkpoint, Commit, Message, NewView, Prepare, Prepares, ViewChange};
-use std::fmt;
-use terms::Request;
 use texts::Hex;
 
 // How far the lines of messages in a message, and in one of those, are indented.
@@ -18,23 +17,6 @@ pub fn show_message(rt: &HostRuntime, message: &Message) -> Result<(), Stop> {
         Message::Checkpoint(checkpoint) => show_checkpoint(rt, checkpoint),
         Message::ViewChange(change) => show_view_change(rt, change, HELD),
         Message::NewView(new_view) => show_new_view(rt, new_view),
-    }
-}
-
-// A request as its five numbers, with points between them.
-#[derive(Clone, Copy, PartialEq, Eq, Debug)]
-struct Dotted(Request);
-
-impl fmt::Display for Dotted {
-    fn fmt<W: fmt::Write>(&self, f: &mut fmt::Formatter<W>) -> fmt::Result {
-        let Request {
-            client,
-            sequence,
-            code,
-            key,
-            value,
-        } = self.0;
-        write!(f, "{client}.{sequence}.{code}.{key}.{value}")
     }
 }
 
@@ -105,21 +87,17 @@ fn show_view_change(rt: &HostRuntime, change: &ViewChange, indent: &str) -> Resu
         entries.len(),
         Hex(*tag)
     )?;
-    for i in 0..proof.len() {
-        if let Some(checkpoint) = proof.get(i) {
-            print!(rt; "{indent}")?;
-            show_checkpoint(rt, &checkpoint)?;
-        }
+    for checkpoint in proof.iter() {
+        print!(rt; "{indent}")?;
+        show_checkpoint(rt, &checkpoint)?;
     }
     show_prepares(rt, entries, indent)
 }
 
 fn show_prepares(rt: &HostRuntime, prepares: &Prepares, indent: &str) -> Result<(), Stop> {
-    for i in 0..prepares.len() {
-        if let Some(prepare) = prepares.get(i) {
-            print!(rt; "{indent}")?;
-            show_prepare(rt, &prepare)?;
-        }
+    for prepare in prepares.iter() {
+        print!(rt; "{indent}")?;
+        show_prepare(rt, &prepare)?;
     }
     Ok(())
 }
@@ -138,11 +116,9 @@ fn show_new_view(rt: &HostRuntime, new_view: &NewView) -> Result<(), Stop> {
         prepares.len(),
         Hex(*tag)
     )?;
-    for i in 0..changes.len() {
-        if let Some(change) = changes.get(i) {
-            print!(rt; "{HELD}")?;
-            show_view_change(rt, &change, HELD_BELOW)?;
-        }
+    for change in changes.iter() {
+        print!(rt; "{HELD}")?;
+        show_view_change(rt, &change, HELD_BELOW)?;
     }
     show_prepares(rt, prepares, HELD)
 }
