@@ -102,8 +102,8 @@ fn repeated<F: Fn(&mut [u8])>(
     Ok(message)
 }
 
-// Writes a result over the front of a message, where it fits.
-fn overwrite<const N: usize>(message: &mut [u8], tag: [u8; N]) {
+/// Writes a result over the front of a message, where it fits.
+pub fn overwrite<const N: usize>(message: &mut [u8], tag: [u8; N]) {
     if let Some(front) = message.first_chunk_mut() {
         *front = tag;
     }
