@@ -10,7 +10,6 @@ use super::glyph_rows::{GlyphRow, ROW_BYTES};
 use super::operations::{Measure, Operation};
 use service::{Failure, Service, reply_of};
 use std::alloc::{AllocError, Global};
-use std::marker::Model;
 use terms::Request;
 use xdr::{Row, Writer};
 
@@ -23,26 +22,21 @@ const COUNT_BYTES: usize = 4;
 // The largest advance or bearing that can be set.
 const LARGEST_MEASURE: u32 = 65_535;
 
-/// A register of glyph widths.
+/// A register of glyph widths. Of every register it can be read that its rows ascend, that they are no more than there
+/// are places, and that the memory for all places is reserved.
 #[derive(Drop)]
 pub struct GlyphRegister {
     rows: Vec<GlyphRow>,
-}
-
-/// A register stands for its rows.
-impl Model for GlyphRegister {
-    ghost Value = { List GlyphRow };
-
-    ghost view = { λ s. s.rows.items };
-
-    ghost invariant = { λ s. (ascending s.rows.items ≡ true) × (vec_len s.rows ≤ places) × (places ≤ vec_capacity s.rows) };
+    ghost ordered: { ascending rows.items ≡ true },
+    ghost few: { vec_len rows ≤ places },
+    ghost room: { places ≤ vec_capacity rows },
 }
 
 impl GlyphRegister {
     /// An empty register. Its memory is reserved here, so that no request can want for it.
     #[tactic(auto, using(crate::proofs::Reading::glyph_laws))]
     pub fn new(heap: Global) -> Result<GlyphRegister, AllocError>
-        ensures start { IfOk result (λ s. s ≡ []) }
+        ensures start { IfOk result (λ s. s.rows.items ≡ []) }
         ensures laws { GlyphLaws }
     {
         let rows = Vec::with_capacity(heap, PLACES)?;
@@ -51,30 +45,30 @@ impl GlyphRegister {
 
     /// The rows, ascending by glyph, and as many as there are places at most.
     pub fn rows(&self) -> &[GlyphRow]
-        ensures rows { result.now ≡ self.now }
-        ensures ordered { ascending self.now ≡ true }
-        ensures few { length self.now ≤ places }
+        ensures rows { result.now ≡ self.now.rows.items }
+        ensures ordered { ascending self.now.rows.items ≡ true }
+        ensures few { length self.now.rows.items ≤ places }
     {
         self.rows.as_slice()
     }
 
     // Where a glyph's row stands, or where it would stand.
     fn find(&self, glyph: u32) -> Result<usize, usize>
-        ensures { MatchResult result (Found self.now glyph) (Missing self.now glyph) }
+        ensures { MatchResult result (Found self.now.rows.items glyph) (Missing self.now.rows.items glyph) }
     {
         self.rows.binary_search_by_key(&glyph, |row| row.glyph)
     }
 
     // A glyph's row, if it has one.
     fn row(&self, glyph: u32) -> Option<GlyphRow>
-        ensures { result ≡ row_of self.now glyph }
+        ensures { result ≡ row_of self.now.rows.items glyph }
     {
         let place = self.find(glyph).ok()?;
         Some(self.rows[place])
     }
 
     fn read(&self, glyph: u32, measure: Measure) -> Result<u32, Failure>
-        ensures { outcome_reply result ≡ read_reply measure (row_of self.now glyph) }
+        ensures { outcome_reply result ≡ read_reply measure (row_of self.now.rows.items glyph) }
     {
         let row = self.row(glyph).ok_or(Failure::NotAvailable)?;
         Ok(row.get(measure))
@@ -82,8 +76,8 @@ impl GlyphRegister {
 
     #[tactic(auto, using(crate::proofs::Sets::set_glyph, crate::proofs::Sets::set_refused))]
     fn set(&mut self, glyph: u32, measure: Measure, value: u32) -> Result<u32, Failure>
-        ensures answer { outcome_reply result ≡ set_reply self.old glyph value }
-        ensures after { self.new ≡ after_set self.old measure glyph value }
+        ensures answer { outcome_reply result ≡ set_reply self.old.rows.items glyph value }
+        ensures after { self.new.rows.items ≡ after_set self.old.rows.items measure glyph value }
     {
         if value > LARGEST_MEASURE {
             return Err(Failure::NotTaken);
@@ -96,8 +90,8 @@ impl GlyphRegister {
     // Puts a row where its glyph belongs, over the row that the glyph had, if there is a place.
     #[tactic(auto, using(crate::proofs::Places::placed_ascends))]
     fn put(&mut self, row: GlyphRow) -> Result<(), Failure>
-        ensures answer { result ≡ put_outcome (has_place self.old row.glyph) }
-        ensures after { self.new ≡ (if is_ok result then placed self.old row else self.old) }
+        ensures answer { result ≡ put_outcome (has_place self.old.rows.items row.glyph) }
+        ensures after { self.new.rows.items ≡ (if is_ok result then placed self.old.rows.items row else self.old.rows.items) }
     {
         match self.find(row.glyph) {
             Ok(place) => self.rows[place] = row,
@@ -114,8 +108,8 @@ impl GlyphRegister {
 
     // Carries out a request.
     fn carry_out(&mut self, request: Request) -> Result<u32, Failure>
-        ensures answer { outcome_reply result ≡ glyph_reply self.old request }
-        ensures after { self.new ≡ glyph_next self.old request }
+        ensures answer { outcome_reply result ≡ glyph_reply self.old.rows.items request }
+        ensures after { self.new.rows.items ≡ glyph_next self.old.rows.items request }
     {
         match Operation::try_from(request.code)? {
             Operation::Set(measure) => self.set(request.key, measure, request.value),
@@ -127,7 +121,7 @@ impl GlyphRegister {
 impl Service for GlyphRegister {
     ghost State = { List GlyphRow };
 
-    ghost state = { λ s. s };
+    ghost state = { λ s. s.rows.items };
 
     ghost next = { glyph_next };
 

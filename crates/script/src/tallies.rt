@@ -11,6 +11,7 @@ const COUNTED: u32 = 5;
 pub struct Tally {
     applied: u64,
     rows: [u64; 6],
+    ghost six: { length rows ≡ 6 },
 }
 
 impl Tally {

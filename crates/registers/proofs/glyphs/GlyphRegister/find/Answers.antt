@@ -8,4 +8,4 @@ pub returns : goal.returns
 returns c =
     let facts = c.binary_search_by_key.ensures in
     let by_glyph = facts.position (λ row. row.glyph) (answers_always _ _ _ (λ f a r g called. search rules)) in
-    rw (← c.self.view_is, ← c.deref.ensures.value) (searched _ (rw c.deref.ensures.value c.self.invariant.0) c.args.glyph _ facts.bound by_glyph)
+    rw (← c.deref.ensures.value) (searched _ (rw c.deref.ensures.value c.args.self.now.ordered) c.args.glyph _ facts.bound by_glyph)
