@@ -1,5 +1,5 @@
 // AES-128 under a key whose round keys stand ready.
-ghost use Rattle.std.specs.Prelude.{◌≡◌};
+ghost use Rattle.std.specs.Prelude.{◌≡◌, if◌then◌else◌, ◌==◌};
 ghost use Rattle.aes.specs.Cipher.{next_key, key_expansion, cipher};
 ghost use Rattle.aes.specs.Field.{xtime};
 ghost use Rattle.aes.specs.Laws.{Inverses};
@@ -22,18 +22,19 @@ impl Aes128 {
         ensures keys { result.keys ≡ key_expansion key.now }
         ensures inverses { Inverses }
     {
-        let mut next = *key;
+        let mut last = *key;
         let mut rcon = 1;
         let keys = array::from_fn(
-            |_| -> Block
-                ensures this { result ≡ next.entry }
-                ensures next { next.exit ≡ next_key next.entry rcon.entry }
-                ensures rcon { rcon.exit ≡ xtime rcon.entry }
+            |t| -> Block
+                ensures key { last.exit ≡ (if t == 0 then last.entry else next_key last.entry rcon.entry) }
+                ensures rcon { rcon.exit ≡ (if t == 0 then rcon.entry else xtime rcon.entry) }
+                ensures this { result ≡ last.exit }
             {
-                let this = next;
-                next = next_key(&this, rcon);
-                rcon = double(rcon);
-                this
+                if t > 0 {
+                    last = next_key(&last, rcon);
+                    rcon = double(rcon);
+                }
+                last
             },
         );
         Aes128 { keys }

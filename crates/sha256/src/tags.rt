@@ -7,6 +7,7 @@ ghost use Rattle.sha256.specs.Progress.{tag_under, tag_after};
 use super::compression::compress;
 use super::constants::INITIAL;
 use super::hashing::{Sha256, digest};
+use std::array;
 use streams::Stream;
 
 const IPAD: u8 = 0x36;
@@ -49,11 +50,12 @@ fn block_key(key: &[u8]) -> [u8; 64]
     }
 }
 
-/// The hash value after the block of a key against a pad.
+/// The hash value after the block of a key against a pad. The block is made byte by byte, since the library's `map` of
+/// an array takes each byte through an `Option`.
 fn after_pad(key: [u8; 64], pad: u8) -> [u32; 8]
     ensures { result ≡ compressed H0 (xored key pad) }
 {
-    compress(INITIAL, &key.map(|byte| byte ^ pad))
+    compress(INITIAL, &array::from_fn(|i| key[i] ^ pad))
 }
 
 impl HmacKey {
