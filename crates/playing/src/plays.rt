@@ -11,14 +11,21 @@ use texts::Lines;
 pub fn play(rt: &HostRuntime, script: &[u8]) -> Result<(), Stop> {
     let mut lines = Lines::of(script);
     for (number, line) in lines.by_ref() {
-        let header = read_header(line).map_err(|fault| Stop::Line(number, fault))?;
-        match header {
-            None => {}
-            Some(Header::Register(kind)) => return play_register(rt, number, kind, lines),
-            Some(Header::Counter(counter)) => return play_counter(rt, number, counter, lines),
-            Some(Header::Mail) => return play_mail(rt, number, lines),
-            Some(Header::Group(group)) => return play_group(rt, number, group, lines),
+        match read_header(line) {
+            Err(fault) => return Err(Stop::Line(number, fault)),
+            Ok(None) => {}
+            Ok(Some(header)) => return play_behind(rt, number, header, lines),
         }
     }
     Ok(())
+}
+
+// Plays what a header asks for, on the lines behind it.
+fn play_behind(rt: &HostRuntime, number: u64, header: Header, lines: Lines) -> Result<(), Stop> {
+    match header {
+        Header::Register(kind) => play_register(rt, number, kind, lines),
+        Header::Counter(counter) => play_counter(rt, number, counter, lines),
+        Header::Mail => play_mail(rt, number, lines),
+        Header::Group(group) => play_group(rt, number, group, lines),
+    }
 }

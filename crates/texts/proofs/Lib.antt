@@ -1,4 +1,5 @@
 -- The lemmas that the answers share.
+pub mod Decoding
 pub mod Digits
 pub mod Pairs
 pub mod Pieces

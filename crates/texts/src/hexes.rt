@@ -95,14 +95,24 @@ impl<'a> HexWord<'a> {
     }
 }
 
-/// The bytes that a word writes in hexadecimal, if it writes some.
+/// The bytes that a word writes in hexadecimal, if it writes some. Bytes written in hexadecimal read as themselves.
+/// Each digit is read once, where a `HexWord` judges all digits before it reads them.
+#[tactic(auto, using(crate::proofs::Decoding::decoding))]
 pub fn read_hex(heap: Global, word: &[u8]) -> Result<Option<Vec<u8>>, AllocError>
-    ensures { IfOk result (λ bytes. option_map vec_items bytes ≡ bytes_of word.now) }
+    ensures value { IfOk result (λ bytes. option_map vec_items bytes ≡ bytes_of word.now) }
+    ensures written { HexesRead }
 {
-    match HexWord::of(word) {
-        Some(hex) => Ok(Some(hex.bytes(heap)?)),
-        None => Ok(None),
+    let (pairs, []) = word.as_chunks::<2>() else {
+        return Ok(None);
+    };
+    let mut bytes = Vec::with_capacity(heap, pairs.len())?;
+    for [high, low] in pairs {
+        let Some(byte) = hex_byte(*high, *low) else {
+            return Ok(None);
+        };
+        bytes.push_reserved(byte);
     }
+    Ok(Some(bytes))
 }
 
 // The byte that two digits write.

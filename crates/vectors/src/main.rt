@@ -25,9 +25,13 @@ fn run(rt: &HostRuntime) -> Result<(), Stop> {
     let text = read_all(rt.alloc(), rt.stdin())?;
     let mut agreed = 0u64;
     for (number, line) in Lines::of(text.as_slice()) {
-        if let Some(function) = run_line(rt.alloc(), number, line)? {
-            agreed = agreed.saturating_add(1);
-            println!(rt; "{number} {function}: as published")?;
+        match run_line(rt.alloc(), line) {
+            Err(stop) => return Err(stop.at(number)),
+            Ok(None) => {}
+            Ok(Some(function)) => {
+                agreed = agreed.saturating_add(1);
+                println!(rt; "{number} {function}: as published")?;
+            }
         }
     }
     let proved = proved_results();

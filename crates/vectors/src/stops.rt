@@ -23,3 +23,23 @@ pub enum Fault {
     #[error("gives another result than the published one")]
     Differs,
 }
+
+/// Why a line is not run to its end. It is kept apart from a `Stop`, which is wide, so that a line of which nothing is
+/// to be said costs little.
+#[derive(Debug, Drop, Error)]
+pub enum LineStop {
+    #[error("{0}")]
+    Fault(#[from] Fault),
+    #[error("out of memory")]
+    Memory(#[from(alloc)] AllocError),
+}
+
+impl LineStop {
+    /// What it means for the program, at a line of this number.
+    pub fn at(self, number: u64) -> Stop {
+        match self {
+            LineStop::Fault(fault) => Stop::Line(number, fault),
+            LineStop::Memory(error) => Stop::Memory(error),
+        }
+    }
+}
